@@ -1,0 +1,64 @@
+-- Laws of a box's fields: the header's length and size by the size field, and what is read past the end.
+use mathlib.Core.Path.{_≡_, sym, ap, _∙_}
+use mathlib.Core.List.{List, []}
+use mathlib.Core.Logic.{⊎-elim}
+use Prim.Native.Nat.{ℕ, _+_, _-_, _<_, _≤_}
+use native.Mathlib.Omega.{arith}
+use lib.ListN.{length, take, drop, drop-of-length-le, length-drop}
+use lib.Seq.{take-nil, take-all}
+use borrow.Author.Tests.{eq-eqb, ne-eqb}
+use Rattle.numbers.specs.Numbers.{byte, be2, be3, be4, be8}
+use Rattle.numbers.proofs.Bounds.{past, Reads}
+use Rattle.rules.specs.Boxes.{part, headOf, sizeOf}
+use Rattle.fields.specs.Behind.{Behind}
+
+-- size 1: the header is 16 bytes, and an 8-byte size follows the type
+pub head-long : (s : List ℕ) (at : ℕ) → be4 s at ≡ 1 → headOf s at ≡ 16
+unfolding headOf
+head-long s at e = rw (eq-eqb _ _ e)
+
+pub head-short : (s : List ℕ) (at : ℕ) → (be4 s at ≡ 1 → ⊥) → headOf s at ≡ 8
+unfolding headOf
+head-short s at e = rw (ne-eqb _ _ e)
+
+pub size-long : (s : List ℕ) (at : ℕ) → be4 s at ≡ 1 → sizeOf s at ≡ be8 s (at + 8)
+unfolding sizeOf
+size-long s at e = rw (eq-eqb _ _ e)
+
+pub size-short : (s : List ℕ) (at : ℕ) → (be4 s at ≡ 1 → ⊥) → sizeOf s at ≡ be4 s at
+unfolding sizeOf
+size-short s at e = rw (ne-eqb _ _ e)
+
+-- past the end every number is 0
+pub past3 : (s : List ℕ) (i : ℕ) → length s ≤ i → be3 s i ≡ 0
+unfolding be3
+past3 s i h = omega (arith, past s i h, past s (i + 1) (omega arith), past s (i + 2) (omega arith))
+
+pub past4 : (s : List ℕ) (i : ℕ) → length s ≤ i → be4 s i ≡ 0
+unfolding be4
+past4 s i h =
+    omega (arith, past s i h, past s (i + 1) (omega arith), past s (i + 2) (omega arith), past s (i + 3) (omega arith))
+
+pub past8 : (s : List ℕ) (i : ℕ) → length s ≤ i → be8 s i ≡ 0
+unfolding be8
+past8 s i h = omega (arith, past4 s i h, past4 s (i + 4) (omega arith))
+
+-- a part past the end is empty, and one beyond it goes to the end
+pub part-past : (s : List ℕ) (a n : ℕ) → length s ≤ a → part s a n ≡ []
+part-past s a n h = rw (drop-of-length-le s h) (take-nil n)
+
+pub part-all : (s : List ℕ) (a n : ℕ) → length s - a ≤ n → part s a n ≡ drop a s
+part-all s a n h = take-all n (drop a s) (rw length-drop h)
+
+-- what a number read is not
+pub other : {x y n : ℕ} → x ≡ y → (x ≡ n → ⊥) → y ≡ n → ⊥
+other e h f = h (e ∙ f)
+
+-- any reader reads behind the header
+pub behind : {n : ℕ} {f : List ℕ → ℕ → ℕ} → Reads n f → (s : List ℕ) (at k r : ℕ) → Behind s at k r
+    → f s r ≡ f s (at + headOf s at + k)
+behind {f = f} reads s at k r =
+    ⊎-elim (λ e. ap (f s) e)
+    (λ w.
+    reads .agree s s r (at + headOf s at + k)
+    (λ i h. sym (past s (r + i) (omega arith)) ∙ past s (at + headOf s at + k + i) (omega arith)))

@@ -1,0 +1,175 @@
+// The fields of a framed box: header length, size, version, flags, numbers behind the header, and the bytes it holds.
+// Every reader is total: what stands past the end of the slice reads as 0.
+ghost use mathlib.Core.Path.{_≡_};
+ghost use Prim.Native.Nat.{_+_, _-_, _<_, _≤_};
+ghost use lib.ListN.{length, take, drop};
+ghost use Rattle.numbers.specs.Numbers.{be4, be8};
+ghost use Rattle.rules.specs.Boxes.{part, headOf, sizeOf, whole, body};
+ghost use Rattle.rules.specs.Header.{shortSize, version, field, versioned, plain, atLeast};
+ghost use Rattle.rules.specs.Fragment.{flagsOf};
+ghost use Rattle.fields.specs.Behind.{Behind};
+
+// The header length of the box at a place.
+pub fn head_of(s: &[u8], at: usize) -> usize
+    ensures { λ r. ⌜ r ≡ headOf (now (s .entry)) at ⌝ }
+    ensures { λ r. ⌜ (8 ≤ r) × (r ≤ 16) ⌝ }
+{
+    let size = numbers::be4(s, at);
+    if size == 1 { 16 } else { 8 }
+}
+
+// The whole size that the box at a place declares.
+pub fn size_of(s: &[u8], at: usize) -> u64
+    ensures { λ r. ⌜ r ≡ sizeOf (now (s .entry)) at ⌝ }
+{
+    let size = numbers::be4(s, at);
+    if size == 1 {
+        long_size(s, at)
+    } else {
+        size as u64
+    }
+}
+
+// The 8-byte size behind the type.
+fn long_size(s: &[u8], at: usize) -> u64
+    ensures { λ r. ⌜ r ≡ be8 (now (s .entry)) (at + 8) ⌝ }
+{
+    if at < s.len() {
+        numbers::be8(s, at + 8)
+    } else {
+        0
+    }
+}
+
+// As many as n bytes of a slice from a place.
+pub fn part(s: &[u8], a: usize, n: u64) -> &[u8]
+    ensures { λ r. ⌜ now r ≡ part (now (s .entry)) a n ⌝ }
+{
+    if s.len() <= a {
+        return &s[..0];
+    }
+    let left = s.len() - a;
+    if n < left as u64 {
+        let e = a + n as usize;
+        &s[a..e]
+    } else {
+        &s[a..]
+    }
+}
+
+// The bytes of the box at a place, whole.
+pub fn whole(s: &[u8], at: usize) -> &[u8]
+    ensures { λ r. ⌜ now r ≡ whole (now (s .entry)) at ⌝ }
+{
+    let size = size_of(s, at);
+    part(s, at, size)
+}
+
+// The bytes of the box at a place, without its header.
+pub fn body(s: &[u8], at: usize) -> &[u8]
+    ensures { λ r. ⌜ now r ≡ body (now (s .entry)) at ⌝ }
+{
+    if s.len() <= at {
+        return &s[..0];
+    }
+    let head = head_of(s, at);
+    let size = size_of(s, at);
+    let payload = less(size, head as u64);
+    let a = at + head;
+    part(s, a, payload)
+}
+
+// What is left of a number, 0 where the other is larger.
+pub fn less(a: u64, b: u64) -> u64
+    ensures { λ r. ⌜ r ≡ a - b ⌝ }
+{
+    if b <= a { a - b } else { 0 }
+}
+
+// The place behind the header of the box at a place, some bytes on; past the end where it does not fit the slice.
+fn behind(s: &[u8], at: usize, k: usize) -> usize
+    ensures { λ r. ⌜ Behind (now (s .entry)) at k r ⌝ }
+{
+    if at < s.len() {
+        if k <= s.len() - at {
+            let head = head_of(s, at);
+            return at + head + k;
+        }
+    }
+    s.len()
+}
+
+// The four-byte field that stands k bytes behind the header.
+pub fn field(s: &[u8], at: usize, k: usize) -> u32
+    ensures { λ r. ⌜ r ≡ field (now (s .entry)) at k ⌝ }
+{
+    let p = behind(s, at, k);
+    numbers::be4(s, p)
+}
+
+// The eight-byte field that stands k bytes behind the header.
+pub fn field8(s: &[u8], at: usize, k: usize) -> u64
+    ensures { λ r. ⌜ r ≡ be8 (now (s .entry)) (at + headOf (now (s .entry)) at + k) ⌝ }
+{
+    let p = behind(s, at, k);
+    numbers::be8(s, p)
+}
+
+// The version of the full box at a place.
+pub fn version(s: &[u8], at: usize) -> u8
+    ensures { λ r. ⌜ r ≡ version (now (s .entry)) at ⌝ }
+{
+    let p = behind(s, at, 0);
+    numbers::byte(s, p)
+}
+
+// The flags of the full box at a place.
+pub fn flags_of(s: &[u8], at: usize) -> u32
+    ensures { λ r. ⌜ r ≡ flagsOf (now (s .entry)) at ⌝ }
+    ensures { λ r. ⌜ r < 16777216 ⌝ }
+{
+    let p = behind(s, at, 1);
+    numbers::be3(s, p)
+}
+
+// The whole size that the box at a place has with the short header.
+pub fn short_size(s: &[u8], at: usize) -> u64
+    ensures { λ r. ⌜ r ≡ shortSize (now (s .entry)) at ⌝ }
+{
+    let head = head_of(s, at);
+    let size = size_of(s, at);
+    less(size, head as u64) + 8
+}
+
+// Whether the box has size a for version 0, size b for version 1, and no other version.
+pub fn versioned(s: &[u8], at: usize, a: u64, b: u64) -> bool
+    ensures { λ r. ⌜ r ≡ versioned (now (s .entry)) at a b ⌝ }
+{
+    let v = version(s, at);
+    if v == 0 {
+        return short_size(s, at) == a;
+    }
+    if v == 1 {
+        return short_size(s, at) == b;
+    }
+    false
+}
+
+// Whether the box has version 0 and size a.
+pub fn plain(s: &[u8], at: usize, a: u64) -> bool
+    ensures { λ r. ⌜ r ≡ plain (now (s .entry)) at a ⌝ }
+{
+    let v = version(s, at);
+    if v == 0 {
+        return short_size(s, at) == a;
+    }
+    false
+}
+
+// Whether the box has at least size a.
+pub fn at_least(s: &[u8], at: usize, a: u64) -> bool
+    ensures { λ r. ⌜ r ≡ atLeast (now (s .entry)) at a ⌝ }
+{
+    let z = short_size(s, at);
+    a <= z
+}

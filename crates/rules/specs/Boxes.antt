@@ -1,0 +1,152 @@
+-- Boxes in bytes: one header, the forest of boxes in a slice, runs of siblings, and what is seen of a kind among them.
+use Prim.Native.Nat.{ℕ, zero, suc, _+_, _-_}
+use mathlib.Core.List.{List, [], _∷_}
+use mathlib.Core.Bool.{Bool}
+use lib.ListN.{length, take, drop}
+use lib.Dec.{ltb, eqb}
+use Rattle.numbers.specs.Numbers.{be4, be8, when}
+use Rattle.rules.specs.Kinds.{moov, moof, trak, mvex, edts, mdia, minf, dinf, stbl, traf, named}
+use Rattle.rules.specs.declared.Path.{Path}
+use Rattle.rules.specs.declared.Path.the-variants.{Top, Moov, Moof, Trak, Mdia, Minf, Flat}
+use Rattle.rules.specs.declared.Inside.{Inside}
+use Rattle.rules.specs.declared.Inside.the-variants.{Leaf, Holds}
+use Rattle.rules.specs.declared.Look.{Look}
+use Rattle.rules.specs.declared.Look.the-variants.{Nothing, Short, Small, Beyond, Header}
+use Rattle.rules.specs.declared.Seen.{Seen}
+use Rattle.rules.specs.declared.Seen.the-variants.{Never, Once, Twice}
+
+-- n bytes of a slice from a place, as many of them as there are
+abbrev pub part : List ℕ → ℕ → ℕ → List ℕ
+part s a n = take n (drop a s)
+
+-- a header of h bytes that says a size z, where `left` bytes remain: 3 if too small, 4 if beyond the parent
+unfoldable pub sized : ℕ → ℕ → ℕ → ℕ → Look
+sized left h z k = when (ltb z h) Small (when (ltb left z) Beyond (Header h z k))
+
+-- what stands where `left` bytes remain: size 1 means that an 8-byte size follows the type
+unfoldable pub lookAt : List ℕ → ℕ → ℕ → Look
+lookAt s at left =
+    when (eqb left 0) Nothing
+    (when (ltb left 8) Short
+    (when (eqb (be4 s at) 1)
+    (when (ltb left 16) Short (sized left 16 (be8 s (at + 8)) (be4 s (at + 4))))
+    (sized left 8 (be4 s at) (be4 s (at + 4)))))
+
+-- what stands at a place of a run of boxes, whose parent is the slice
+unfoldable pub look : List ℕ → ℕ → Look
+look s at = lookAt s at (length s - at)
+
+-- a case by what stands there; a broken header hands on its refusal number: 2, 3 or 4
+abbrev pub onLook : {A : Type 0} → Look → A → (ℕ → A) → (ℕ → ℕ → ℕ → A) → A
+onLook Nothing e b h = e
+onLook Short e b h = b 2
+onLook Small e b h = b 3
+onLook Beyond e b h = b 4
+onLook (Header n z k) e b h = h n z k
+
+-- containers, only on these paths; every other box is a leaf, and a type that no rule names is passed over
+unfoldable pub inside : Path → ℕ → Inside
+inside Top k = when (eqb k moov) (Holds Moov) (when (eqb k moof) (Holds Moof) Leaf)
+inside Moov k = when (eqb k trak) (Holds Trak) (when (eqb k mvex) (Holds Flat) Leaf)
+inside Moof k = when (eqb k traf) (Holds Flat) Leaf
+inside Trak k = when (eqb k edts) (Holds Flat) (when (eqb k mdia) (Holds Mdia) Leaf)
+inside Mdia k = when (eqb k minf) (Holds Minf) Leaf
+inside Minf k = when (eqb k dinf) (Holds Flat) (when (eqb k stbl) (Holds Flat) Leaf)
+inside Flat k = Leaf
+
+-- a box: its place in the slice, its header's length, its whole size, its type
+pub record Box : Type 0 where
+  pub at : ℕ
+  pub head : ℕ
+  pub size : ℕ
+  pub kind : ℕ
+
+-- a run of boxes with what is inside each: no byte left, a broken header with its number and place, or a box, its inside and what follows it
+pub data Forest : Type 0 where
+  end : Forest
+  bad : ℕ → ℕ → Forest
+  node : Box → Forest → Forest → Forest
+
+-- what is inside a box's body
+abbrev pub within : (Path → List ℕ → Forest) → Inside → List ℕ → Forest
+within g Leaf s = end
+within g (Holds q) s = g q s
+
+-- the forest from a place, of at most so many boxes one after the other
+unfoldable pub grow : ℕ → Path → List ℕ → ℕ → Forest
+grow zero p s at = end
+grow (suc f) p s at =
+    onLook (look s at) end (λ n. bad n at)
+    (λ h z k.
+    node (record { at = at; head = h; size = z; kind = k })
+    (within (λ q t. grow f q t 0) (inside p k) (part s (at + h) (z - h)))
+    (grow f p s (at + z)))
+
+-- the forest of a run from a place to the slice's end: a box takes at least 8 bytes, so there are fewer boxes than bytes
+unfoldable pub forest : Path → List ℕ → ℕ → Forest
+forest p s at = grow (length s - at) p s at
+
+-- a forest's boxes, without what is inside them
+unfoldable pub tops : Forest → List Box
+tops end = []
+tops (bad n p) = []
+tops (node x i r) = x ∷ tops r
+
+-- the sibling boxes of a slice from a place on, up to its end or a broken header
+unfoldable pub boxes : List ℕ → ℕ → List Box
+boxes s at = tops (forest Flat s at)
+
+-- one more box at a place, after those seen
+abbrev pub again : ℕ → Seen → Seen
+again at Never = Once at
+again at (Once a) = Twice a at
+again at (Twice a b) = Twice a b
+
+-- what is seen of a wanted kind among boxes, after what was seen before
+unfoldable pub seenFrom : Seen → ℕ → List Box → Seen
+seenFrom v w [] = v
+seenFrom v w (x ∷ xs) = seenFrom (when (named w (x .kind)) (again (x .at) v) v) w xs
+
+-- what is seen of a wanted kind among boxes
+abbrev pub seen : ℕ → List Box → Seen
+seen w xs = seenFrom Never w xs
+
+-- a case by what is seen
+abbrev pub onSeen : {A : Type 0} → Seen → A → (ℕ → A) → (ℕ → ℕ → A) → A
+onSeen Never a b c = a
+onSeen (Once x) a b c = b x
+onSeen (Twice x y) a b c = c x y
+
+-- the first place seen, 0 where there is none
+abbrev pub firstOf : Seen → ℕ
+firstOf v = onSeen v 0 (λ a. a) (λ a b. a)
+
+-- the places of every box of a type
+unfoldable pub placesOf : ℕ → List Box → List ℕ
+placesOf k [] = []
+placesOf k (x ∷ xs) = when (eqb (x .kind) k) (x .at ∷ placesOf k xs) (placesOf k xs)
+
+-- a framed box's header length, its whole size and its type
+unfoldable pub headOf : List ℕ → ℕ → ℕ
+headOf s at = when (eqb (be4 s at) 1) 16 8
+
+unfoldable pub sizeOf : List ℕ → ℕ → ℕ
+sizeOf s at = when (eqb (be4 s at) 1) (be8 s (at + 8)) (be4 s at)
+
+abbrev pub kindOf : List ℕ → ℕ → ℕ
+kindOf s at = be4 s (at + 4)
+
+-- the bytes of the box at a place: whole, and without the header
+unfoldable pub whole : List ℕ → ℕ → List ℕ
+whole s at = part s at (sizeOf s at)
+
+unfoldable pub body : List ℕ → ℕ → List ℕ
+body s at = part s (at + headOf s at) (sizeOf s at - headOf s at)
+
+-- the boxes in the container at a place
+unfoldable pub kids : List ℕ → ℕ → List Box
+kids s at = boxes (body s at) 0
+
+-- the place, in the same slice, of the first wanted box in the container at a place
+unfoldable pub child : List ℕ → ℕ → ℕ → ℕ
+child s at w = at + headOf s at + firstOf (seen w (kids s at))

@@ -1,0 +1,66 @@
+-- Boxes written as bytes, for the examples: the track T of document 01 and what is made of it.
+use Prim.Native.Nat.{ℕ, _+_, _-_, _*_, _/_, _%_}
+use mathlib.Core.List.{List, [], _∷_, _++_}
+use lib.ListN.{length, replicate}
+use Rattle.rules.specs.Kinds.{ftyp, moov, mvhd, trak, tkhd, mdia, mdhd, hdlr, minf, vmhd, dinf, dref, stbl, stsd, stts, stsc, stsz, stco, mvex, trex, moof, mfhd, traf, tfhd, tfdt, trun, mdat, cmfc, vide}
+
+-- a number as four bytes, and as eight
+unfoldable pub in4 : ℕ → List ℕ
+in4 n = n / 16777216 % 256 ∷ n / 65536 % 256 ∷ n / 256 % 256 ∷ n % 256 ∷ []
+
+unfoldable pub in8 : ℕ → List ℕ
+in8 n = in4 (n / 4294967296) ++ in4 (n % 4294967296)
+
+-- n bytes of 0
+unfoldable pub zeros : ℕ → List ℕ
+zeros n = replicate n 0
+
+-- a box with the short header
+unfoldable pub boxed : ℕ → List ℕ → List ℕ
+boxed k x = in4 (8 + length x) ++ in4 k ++ x
+
+-- the header of T with a timescale, a handler and the media header's type
+unfoldable pub headerWith : ℕ → ℕ → ℕ → List ℕ
+headerWith scale handler media =
+    boxed ftyp (in4 cmfc ++ in4 0 ++ in4 cmfc)
+    ++ boxed moov
+    (boxed mvhd (zeros 100)
+    ++ boxed trak
+    (boxed tkhd (zeros 12 ++ in4 1 ++ zeros 68)
+    ++ boxed mdia
+    (boxed mdhd (zeros 12 ++ in4 scale ++ zeros 8)
+    ++ boxed hdlr (zeros 8 ++ in4 handler ++ zeros 12)
+    ++ boxed minf
+    (boxed media (zeros 12)
+    ++ boxed dinf (boxed dref (zeros 8))
+    ++ boxed stbl
+    (boxed stsd (zeros 4 ++ in4 1)
+    ++ boxed stts (zeros 8)
+    ++ boxed stsc (zeros 8)
+    ++ boxed stsz (zeros 12)
+    ++ boxed stco (zeros 8)))))
+    ++ boxed mvex (boxed trex (zeros 4 ++ in4 1 ++ in4 1 ++ zeros 12)))
+
+-- T's header: timescale 90000, `trex` default flags 0
+unfoldable pub header : List ℕ
+header = headerWith 90000 vide vmhd
+
+-- a run of two samples of 90,000 ticks, sizes 10 and 20, with the flags given besides, its data offset and what follows that
+unfoldable pub run : ℕ → ℕ → List ℕ → List ℕ
+run flags offset more =
+    boxed trun (in4 (0x301 + flags) ++ in4 2 ++ in4 offset ++ more ++ in4 90000 ++ in4 10 ++ in4 90000 ++ in4 20)
+
+-- a `moof` of one run
+unfoldable pub moofOf : ℕ → List ℕ → List ℕ
+moofOf start r =
+    boxed moof
+    (boxed mfhd (zeros 8)
+    ++ boxed traf (boxed tfhd (in4 0x20000 ++ in4 1) ++ boxed tfdt (zeros 4 ++ in4 start) ++ r))
+
+-- a fragment from a start, with its data offset and the payload's length
+unfoldable pub fragment : ℕ → ℕ → ℕ → List ℕ
+fragment start offset payload = moofOf start (run 0 offset []) ++ boxed mdat (zeros payload)
+
+-- T: two fragments from 0
+unfoldable pub trackT : List ℕ
+trackT = header ++ fragment 0 108 30 ++ fragment 180000 108 30

@@ -1,0 +1,132 @@
+-- The numbers of box types, brands and handlers, each computed from its four letters.
+use Prim.Native.Nat.{ℕ, _+_, _*_}
+use mathlib.Core.Bool.{Bool, _||_}
+use lib.Dec.{eqb}
+use Rattle.numbers.specs.Numbers.{when}
+
+-- four letters as a number, the first the most significant
+abbrev pub letters : ℕ → ℕ → ℕ → ℕ → ℕ
+letters a b c d = a * 16777216 + b * 65536 + c * 256 + d
+
+abbrev pub ftyp : ℕ
+ftyp = letters 0x66 0x74 0x79 0x70
+
+abbrev pub moov : ℕ
+moov = letters 0x6d 0x6f 0x6f 0x76
+
+abbrev pub mvhd : ℕ
+mvhd = letters 0x6d 0x76 0x68 0x64
+
+abbrev pub trak : ℕ
+trak = letters 0x74 0x72 0x61 0x6b
+
+abbrev pub tkhd : ℕ
+tkhd = letters 0x74 0x6b 0x68 0x64
+
+abbrev pub edts : ℕ
+edts = letters 0x65 0x64 0x74 0x73
+
+abbrev pub elst : ℕ
+elst = letters 0x65 0x6c 0x73 0x74
+
+abbrev pub mdia : ℕ
+mdia = letters 0x6d 0x64 0x69 0x61
+
+abbrev pub mdhd : ℕ
+mdhd = letters 0x6d 0x64 0x68 0x64
+
+abbrev pub hdlr : ℕ
+hdlr = letters 0x68 0x64 0x6c 0x72
+
+abbrev pub elng : ℕ
+elng = letters 0x65 0x6c 0x6e 0x67
+
+abbrev pub minf : ℕ
+minf = letters 0x6d 0x69 0x6e 0x66
+
+abbrev pub vmhd : ℕ
+vmhd = letters 0x76 0x6d 0x68 0x64
+
+abbrev pub smhd : ℕ
+smhd = letters 0x73 0x6d 0x68 0x64
+
+abbrev pub sthd : ℕ
+sthd = letters 0x73 0x74 0x68 0x64
+
+abbrev pub dinf : ℕ
+dinf = letters 0x64 0x69 0x6e 0x66
+
+abbrev pub dref : ℕ
+dref = letters 0x64 0x72 0x65 0x66
+
+abbrev pub stbl : ℕ
+stbl = letters 0x73 0x74 0x62 0x6c
+
+abbrev pub stsd : ℕ
+stsd = letters 0x73 0x74 0x73 0x64
+
+abbrev pub stts : ℕ
+stts = letters 0x73 0x74 0x74 0x73
+
+abbrev pub stsc : ℕ
+stsc = letters 0x73 0x74 0x73 0x63
+
+abbrev pub stsz : ℕ
+stsz = letters 0x73 0x74 0x73 0x7a
+
+abbrev pub stco : ℕ
+stco = letters 0x73 0x74 0x63 0x6f
+
+abbrev pub mvex : ℕ
+mvex = letters 0x6d 0x76 0x65 0x78
+
+abbrev pub trex : ℕ
+trex = letters 0x74 0x72 0x65 0x78
+
+abbrev pub moof : ℕ
+moof = letters 0x6d 0x6f 0x6f 0x66
+
+abbrev pub mfhd : ℕ
+mfhd = letters 0x6d 0x66 0x68 0x64
+
+abbrev pub traf : ℕ
+traf = letters 0x74 0x72 0x61 0x66
+
+abbrev pub tfhd : ℕ
+tfhd = letters 0x74 0x66 0x68 0x64
+
+abbrev pub tfdt : ℕ
+tfdt = letters 0x74 0x66 0x64 0x74
+
+abbrev pub trun : ℕ
+trun = letters 0x74 0x72 0x75 0x6e
+
+abbrev pub mdat : ℕ
+mdat = letters 0x6d 0x64 0x61 0x74
+
+abbrev pub cmfc : ℕ
+cmfc = letters 0x63 0x6d 0x66 0x63
+
+abbrev pub cmf2 : ℕ
+cmf2 = letters 0x63 0x6d 0x66 0x32
+
+abbrev pub vide : ℕ
+vide = letters 0x76 0x69 0x64 0x65
+
+abbrev pub soun : ℕ
+soun = letters 0x73 0x6f 0x75 0x6e
+
+abbrev pub subt : ℕ
+subt = letters 0x73 0x75 0x62 0x74
+
+-- one of the three media headers
+unfoldable pub isMedia : ℕ → Bool
+isMedia k = eqb k vmhd || eqb k smhd || eqb k sthd
+
+-- the want that stands for any of the three media headers; no rule names the type 0
+abbrev pub media : ℕ
+media = 0
+
+-- whether a box of type k is wanted by w
+unfoldable pub named : ℕ → ℕ → Bool
+named w k = when (eqb w media) (isMedia k) (eqb k w)

@@ -1,0 +1,15 @@
+pub mod Kinds
+pub mod Limits
+pub mod Rules
+pub mod Boxes
+pub mod Framing
+pub mod Order
+pub mod Header
+pub mod Fragment
+pub mod Track
+pub mod Bundle
+pub mod Set
+pub mod Player
+pub mod Bytes
+pub mod Computed
+pub mod Examples

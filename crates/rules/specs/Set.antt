@@ -1,0 +1,84 @@
+-- The switching set: tracks in order, then rules 25 to 28 for track 1, for track 2, and so on, then room.
+use Prim.Native.Nat.{ℕ, suc, _+_}
+use mathlib.Core.List.{List, [], _∷_}
+use mathlib.Core.Bool.{Bool}
+use lib.ListN.{length, drop, getD}
+use lib.Dec.{eqb}
+use Rattle.rules.specs.Rules.{_then_, must, ofTrack, onRule}
+use Rattle.rules.specs.Header.{placesIn}
+use Rattle.rules.specs.Track.{rule1, ruling, moovAt, moovOf, headerOf, fragments, fragmentCount, timescale, boundaries, Outcome, roomFor, refused}
+use Rattle.rules.specs.Bundle.{rule24, tracks}
+use Rattle.rules.specs.declared.Rule.{Rule}
+use Rattle.rules.specs.declared.Rule.the-variants.{Holds}
+
+-- where the track's `hdlr` and `mdhd` stand
+unfoldable pub hdlrAt : List ℕ → ℕ
+hdlrAt s = moovAt s + placesIn (moovOf s) .hdlr
+
+unfoldable pub mdhdAt : List ℕ → ℕ
+mdhdAt s = moovAt s + placesIn (moovOf s) .mdhd
+
+-- the handler of a track
+unfoldable pub handler : List ℕ → ℕ
+handler s = headerOf s .handler
+
+-- 25: handler differs from track 0
+unfoldable pub rule25 : List ℕ → List ℕ → Rule
+rule25 s₀ s = must (eqb (handler s) (handler s₀)) 25 (hdlrAt s)
+
+-- 26: timescale differs from track 0
+unfoldable pub rule26 : List ℕ → List ℕ → Rule
+rule26 s₀ s = must (eqb (timescale s) (timescale s₀)) 26 (mdhdAt s)
+
+-- 27: number of fragments differs from track 0
+unfoldable pub rule27 : List ℕ → List ℕ → Rule
+rule27 s₀ s = must (eqb (fragmentCount s) (fragmentCount s₀)) 27 (length s)
+
+-- the first place, or another where there is none
+abbrev pub firstOr : ℕ → List ℕ → ℕ
+firstOr p [] = p
+firstOr p (x ∷ xs) = x
+
+-- 28 over boundaries of track 0, boundaries of the track, and its fragments from here on; the last fragment's place stands in for a missing one
+unfoldable pub rule28From : ℕ → List ℕ → List ℕ → List ℕ → Rule
+rule28From last [] ys ps = Holds
+rule28From last (x ∷ xs) ys ps =
+    must (eqb (firstOr 0 ys) x) 28 (firstOr last ps) then rule28From (firstOr last ps) xs (drop 1 ys) (drop 1 ps)
+
+-- 28: a boundary differs from track 0; place, the `moof` of fragment k, of the last fragment if k is F
+unfoldable pub rule28 : List ℕ → List ℕ → Rule
+rule28 s₀ s = rule28From 0 (boundaries s₀) (boundaries s) (fragments s)
+
+-- 25 to 28 of a track beside track 0
+unfoldable pub agrees : List ℕ → List ℕ → Rule
+agrees s₀ s = rule25 s₀ s then rule26 s₀ s then rule27 s₀ s then rule28 s₀ s
+
+-- each track by itself, from the k-th on
+unfoldable pub rulings : ℕ → List (List ℕ) → Rule
+rulings k [] = Holds
+rulings k (s ∷ ss) = ofTrack k (ruling s) then rulings (k + 1) ss
+
+-- each track beside track 0, from the k-th on
+unfoldable pub agree : List ℕ → ℕ → List (List ℕ) → Rule
+agree s₀ k [] = Holds
+agree s₀ k (s ∷ ss) = ofTrack k (agrees s₀ s) then agree s₀ (k + 1) ss
+
+-- track 0 of a set
+abbrev pub track0 : List (List ℕ) → List ℕ
+track0 [] = []
+track0 (s ∷ ss) = s
+
+-- every rule of a set of tracks but room
+unfoldable pub setRuling : List (List ℕ) → Rule
+setRuling ss = rulings 0 ss then agree (track0 ss) 1 (drop 1 ss)
+
+-- every rule of a bundle but room, in the order in which they are tried: framed whole first, then the set
+unfoldable pub bundleRuling : List ℕ → Rule
+bundleRuling b = rule1 (length b) then rule24 b then setRuling (tracks b)
+
+-- the set job: every rule, then room
+unfoldable pub setOutcome : List ℕ → List ℕ → Outcome
+setOutcome b t =
+    onRule (bundleRuling b)
+    (λ _. roomFor (fragmentCount (track0 (tracks b))) (timescale (track0 (tracks b))) (boundaries (track0 (tracks b))) t)
+    (λ n k p. refused n k p t)

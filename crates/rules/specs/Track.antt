@@ -1,0 +1,144 @@
+-- The track: what its bytes say, whether every rule holds, and the outcome of the index job and the track job.
+use Prim.Native.Nat.{ℕ, suc, _+_, _-_, _*_}
+use mathlib.Core.List.{List, [], _∷_, _++_}
+use mathlib.Core.Bool.{Bool}
+use lib.ListN.{length, drop}
+use lib.Dec.{leb, ltb}
+use Rattle.numbers.specs.Numbers.{when}
+use Rattle.rules.specs.Kinds.{moov, moof}
+use Rattle.rules.specs.Limits.{byteLimit}
+use Rattle.rules.specs.Rules.{_then_, must, onRule}
+use Rattle.rules.specs.Boxes.{boxes, forest, seen, firstOf, placesOf, headOf, sizeOf, whole}
+use Rattle.rules.specs.Framing.{framed, onFraming, rules2to5, rows}
+use Rattle.rules.specs.Order.{rule6}
+use Rattle.rules.specs.Header.{rules7to13, headerIn}
+use Rattle.rules.specs.Fragment.{shape, timing, startOf, endOf}
+use Rattle.rules.specs.declared.Path.{Path}
+use Rattle.rules.specs.declared.Path.the-variants.{Top}
+use Rattle.rules.specs.declared.Rule.{Rule}
+use Rattle.rules.specs.declared.Rule.the-variants.{Holds, Breaks}
+use Rattle.rules.specs.declared.Defaults.{Defaults}
+use Rattle.rules.specs.declared.Header.{Header}
+use Rattle.rules.specs.declared.Verdict.{Verdict}
+
+-- 1: slice over 1,073,741,824 bytes
+unfoldable pub rule1 : ℕ → Rule
+rule1 n = must (leb n byteLimit) 1 0
+
+-- where `moov` stands, and its bytes
+unfoldable pub moovAt : List ℕ → ℕ
+moovAt s = firstOf (seen moov (boxes s 0))
+
+unfoldable pub moovOf : List ℕ → List ℕ
+moovOf s = whole s (moovAt s)
+
+-- the bytes of `ftyp`, the first box
+unfoldable pub ftypOf : List ℕ → List ℕ
+ftypOf s = whole s 0
+
+-- what the track's header tells
+unfoldable pub headerOf : List ℕ → Header
+headerOf s = headerIn (moovOf s)
+
+-- the fragments from a place on: where each `moof` stands; by rule 6 its `mdat` is the next box
+unfoldable pub fragmentsFrom : List ℕ → ℕ → List ℕ
+fragmentsFrom s at = placesOf moof (boxes s at)
+
+abbrev pub fragments : List ℕ → List ℕ
+fragments s = fragmentsFrom s 0
+
+-- the `mdat` of the fragment at x
+unfoldable pub mdatAt : List ℕ → ℕ → ℕ
+mdatAt s x = x + length (whole s x)
+
+-- 14 to 18 of the fragment at x
+unfoldable pub shapeAt : List ℕ → Header → ℕ → Rule
+shapeAt s h x = shape x (whole s x) (h .id)
+
+-- 19 to 22 of the fragment at x, the k-th, after the previous end
+unfoldable pub timingAt : List ℕ → Header → ℕ → ℕ → ℕ → Rule
+timingAt s h k prev x =
+    timing x (whole s x) (h .defaults) (headOf s (mdatAt s x)) (sizeOf s (mdatAt s x) - headOf s (mdatAt s x)) k prev
+
+-- the fragment at x: its start and its end
+unfoldable pub startAt : List ℕ → ℕ → ℕ
+startAt s x = startOf (whole s x)
+
+unfoldable pub endAt : List ℕ → Header → ℕ → ℕ
+endAt s h x = endOf (whole s x) (h .defaults)
+
+-- 14 to 22, fragment by fragment, from the k-th on
+unfoldable pub rules14to22 : List ℕ → Header → ℕ → ℕ → List ℕ → Rule
+rules14to22 s h k prev [] = Holds
+rules14to22 s h k prev (x ∷ xs) =
+    shapeAt s h x then timingAt s h k prev x then rules14to22 s h (k + 1) (endAt s h x) xs
+
+-- 7 to 13 of a track
+unfoldable pub rulesOfHeader : List ℕ → Rule
+rulesOfHeader s = rules7to13 (moovAt s) (ftypOf s) (moovOf s)
+
+-- every rule of a track but room, in the order in which they are tried
+unfoldable pub ruling : List ℕ → Rule
+ruling s =
+    rule1 (length s)
+    then rules2to5 s
+    then rule6 s
+    then rulesOfHeader s
+    then rules14to22 s (headerOf s) 0 0 (fragments s)
+
+-- the number of fragments, and the timescale
+unfoldable pub fragmentCount : List ℕ → ℕ
+fragmentCount s = length (fragments s)
+
+unfoldable pub timescale : List ℕ → ℕ
+timescale s = headerOf s .timescale
+
+-- the boundaries of fragments at places: each start, and the last end
+unfoldable pub ticksAfter : List ℕ → Header → ℕ → List ℕ → List ℕ
+ticksAfter s h end [] = end ∷ []
+ticksAfter s h end (x ∷ xs) = startAt s x ∷ ticksAfter s h (endAt s h x) xs
+
+unfoldable pub ticks : List ℕ → Header → List ℕ → List ℕ
+ticks s h [] = []
+ticks s h (x ∷ xs) = startAt s x ∷ ticksAfter s h (endAt s h x) xs
+
+unfoldable pub boundaries : List ℕ → List ℕ
+boundaries s = ticks s (headerOf s) (fragments s)
+
+-- what a job gives back: the verdict, and the lent table afterwards
+pub record Outcome : Type 0 where
+  pub verdict : Verdict
+  pub table : List ℕ
+
+-- a refusal: no count, no timescale, the table unchanged
+unfoldable pub refused : ℕ → ℕ → ℕ → List ℕ → Outcome
+refused n track place t =
+    record { verdict = record { number = n; track = track; place = place; count = 0; timescale = 0 }; table = t }
+
+-- an acceptance: the table's first numbers are those given, and nothing after them changes
+unfoldable pub accepted : ℕ → ℕ → List ℕ → List ℕ → Outcome
+accepted count scale numbers t =
+    record {
+      verdict = record { number = 0; track = 0; place = 0; count = count; timescale = scale };
+      table = numbers ++ drop (length numbers) t;
+    }
+
+-- 23: lent table under the numbers to write; last of all
+unfoldable pub roomFor : ℕ → ℕ → List ℕ → List ℕ → Outcome
+roomFor count scale numbers t = when (ltb (length t) (length numbers)) (refused 23 0 0 t) (accepted count scale numbers t)
+
+-- the index of a slice
+unfoldable pub index : List ℕ → List ℕ
+index s = rows (forest Top s 0) 0 0
+
+-- the index job: rules 1 to 5, then room
+unfoldable pub indexOutcome : List ℕ → List ℕ → Outcome
+indexOutcome s t =
+    onRule (rule1 (length s))
+    (λ _. onFraming (framed s) (λ n. roomFor n 0 (index s) t) (λ k p. refused k 0 p t))
+    (λ k _ p. refused k 0 p t)
+
+-- the track job: every rule, then room
+unfoldable pub trackOutcome : List ℕ → List ℕ → Outcome
+trackOutcome s t =
+    onRule (ruling s) (λ _. roomFor (fragmentCount s) (timescale s) (boundaries s) t) (λ n k p. refused n k p t)

@@ -1,0 +1,107 @@
+// The types that the written rules and the code share. The rules themselves are definitions: see specs/.
+
+// Where a run of boxes stands: at the top, in a container that holds containers, or in any other.
+pub enum Path {
+    Top,
+    Moov,
+    Moof,
+    Trak,
+    Mdia,
+    Minf,
+    Flat,
+}
+
+// What a box type is on a path: a leaf, or a container whose run stands on another path.
+pub enum Inside {
+    Leaf,
+    Holds(Path),
+}
+
+// What stands at a place of a slice: nothing, a broken header, or a box.
+pub enum Look {
+    Nothing,
+    Short,
+    Small,
+    Beyond,
+    Header { head: usize, size: usize, kind: u32 },
+}
+
+// How a run of boxes is framed: whole, with the number of boxes so far, or broken at a place.
+pub enum Framing {
+    Framed(usize),
+    Misframed { number: u64, place: usize },
+}
+
+// The boxes of a kind in a run: none, one with its place, or more with the first two places.
+pub enum Seen {
+    Never,
+    Once(usize),
+    Twice(usize, usize),
+}
+
+// A stage of rule 6: what the top level has read so far.
+pub enum Stage {
+    Start,
+    Typed,
+    Headed,
+    Halved,
+    Paired,
+}
+
+// A stage's step: to another stage, or to where no continuation is good.
+pub enum Stepped {
+    To(Stage),
+    Wrong,
+}
+
+// What stands at a place of a bundle: nothing, no good record, or a record with its track's length.
+pub enum Mark {
+    Nothing,
+    Wrong,
+    Track(usize),
+}
+
+// What a rule, or a list of rules in their order, says.
+pub enum Rule {
+    Holds,
+    Breaks { number: u64, track: u64, place: u64 },
+}
+
+// The places of the header's boxes, counted in the bytes of `moov`.
+pub struct Places {
+    pub mvhd: usize,
+    pub tkhd: usize,
+    pub mdhd: usize,
+    pub hdlr: usize,
+    pub media: usize,
+    pub stsd: usize,
+    pub stts: usize,
+    pub stsc: usize,
+    pub stsz: usize,
+    pub stco: usize,
+    pub trex: usize,
+}
+
+// A default for each sample value.
+pub struct Defaults {
+    pub duration: u32,
+    pub size: u32,
+    pub flags: u32,
+}
+
+// What the header tells the fragments and the set.
+pub struct Header {
+    pub timescale: u32,
+    pub id: u32,
+    pub handler: u32,
+    pub defaults: Defaults,
+}
+
+// What a job answers.
+pub struct Verdict {
+    pub number: u64,
+    pub track: u64,
+    pub place: u64,
+    pub count: u64,
+    pub timescale: u64,
+}
