@@ -1,0 +1,9 @@
+-- Laws of `inside`: a type that is named, and one that is not.
+use mathlib.Core.Path.{_≡_}
+use Prim.Native.Nat.{ℕ}
+use Rattle.rules.specs.Boxes.{inside}
+use Rattle.rules.specs.declared.Path.{Path}
+
+-- what is inside is what is inside an equal type on an equal path
+pub same : {p q : Path} {k a : ℕ} → p ≡ q → k ≡ a → inside q a ≡ inside p k
+same e f = cc

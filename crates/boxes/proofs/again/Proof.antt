@@ -1,0 +1,18 @@
+use mathlib.Core.Path.{sym, ap}
+use Rattle.rules.specs.Boxes.{again}
+use borrow.Author.Needs.{needs}
+use Rattle.boxes.proofs.again.Statement.{statement}
+use Rattle.boxes.proofs.again.Tie as tie
+
+returns : tie.Need-returns
+returns c = ap (again _) (sym (c .enum-told .given .1))
+
+returns-2 : tie.Need-returns-2
+returns-2 c = ap (again _) (sym (c .before .seen .given .1))
+
+returns-3 : tie.Need-returns-3
+returns-3 c = ap (again _) (sym (c .before .seen2 .given .1))
+
+pub again-spec : {M : Type 1} → statement M
+again-spec =
+    tie.close (tie.spec (λ c. search needs) (λ c. search needs) (λ c. search needs) returns returns-2 returns-3)

@@ -1,0 +1,202 @@
+// Boxes in bytes: one header, the containers, the sibling boxes of a type, and five wanted types counted in one walk.
+pub mod kinds;
+
+use kinds::DINF;
+use kinds::EDTS;
+use kinds::MDIA;
+use kinds::MINF;
+use kinds::MOOF;
+use kinds::MOOV;
+use kinds::MVEX;
+use kinds::SMHD;
+use kinds::STBL;
+use kinds::STHD;
+use kinds::TRAF;
+use kinds::TRAK;
+use kinds::VMHD;
+use rules::Inside;
+use rules::Look;
+use rules::Path;
+use rules::Seen;
+ghost use mathlib.Core.Path.{_≡_};
+ghost use lib.ListN.{length};
+ghost use Rattle.rules.specs.Kinds.{isMedia, named};
+ghost use Rattle.rules.specs.Boxes.{look, sized, inside, again};
+ghost use Rattle.boxes.specs.Bounds.{lookBounds};
+ghost use Rattle.boxes.specs.Siblings.{nextOf, Tallied};
+
+// A header of some bytes that says a size, where `left` bytes remain.
+fn sized(left: usize, head: usize, size: usize, kind: u32) -> Look
+    ensures { λ r. ⌜ r ≡ sized left head size kind ⌝ }
+{
+    if size < head {
+        return Look::Small;
+    }
+    if left < size {
+        return Look::Beyond;
+    }
+    Look::Header { head, size, kind }
+}
+
+// What stands at a place of a run of boxes.
+pub fn look(s: &[u8], at: usize) -> Look
+    ensures { λ r. ⌜ r ≡ look (now (s .entry)) at ⌝ }
+    ensures { λ r. ⌜ lookBounds r (length (now (s .entry))) at ⌝ }
+{
+    if s.len() <= at {
+        return Look::Nothing;
+    }
+    let left = s.len() - at;
+    if left < 8 {
+        return Look::Short;
+    }
+    let short = numbers::be4(s, at);
+    let kind = numbers::be4(s, at + 4);
+    let mut head = 8;
+    let mut size = short as usize;
+    if short == 1 {
+        if left < 16 {
+            return Look::Short;
+        }
+        head = 16;
+        size = numbers::be8(s, at + 8) as usize;
+    }
+    sized(left, head, size, kind)
+}
+
+// What a box type is on a path: a type that no rule names is passed over.
+pub fn inside(path: Path, kind: u32) -> Inside
+    ensures { λ r. ⌜ r ≡ inside path kind ⌝ }
+{
+    match path {
+        Path::Top => match kind {
+            MOOV => Inside::Holds(Path::Moov),
+            MOOF => Inside::Holds(Path::Moof),
+            _ => Inside::Leaf,
+        },
+        Path::Moov => match kind {
+            TRAK => Inside::Holds(Path::Trak),
+            MVEX => Inside::Holds(Path::Flat),
+            _ => Inside::Leaf,
+        },
+        Path::Moof => match kind {
+            TRAF => Inside::Holds(Path::Flat),
+            _ => Inside::Leaf,
+        },
+        Path::Trak => match kind {
+            EDTS => Inside::Holds(Path::Flat),
+            MDIA => Inside::Holds(Path::Mdia),
+            _ => Inside::Leaf,
+        },
+        Path::Mdia => match kind {
+            MINF => Inside::Holds(Path::Minf),
+            _ => Inside::Leaf,
+        },
+        Path::Minf => match kind {
+            DINF => Inside::Holds(Path::Flat),
+            STBL => Inside::Holds(Path::Flat),
+            _ => Inside::Leaf,
+        },
+        Path::Flat => Inside::Leaf,
+    }
+}
+
+// The next box of a type: its place and where it ends.
+pub enum Next {
+    At { place: usize, next: usize },
+    Nothing,
+}
+
+// The next sibling box of a type from a place on.
+pub fn next_of(s: &[u8], at: usize, kind: u32) -> Next
+    ensures { λ r. ⌜ nextOf r (now (s .entry)) at kind ⌝ }
+{
+    let mut here = at;
+    loop {
+        let l = look(s, here);
+        let Look::Header { size, kind: k, .. } = l else {
+            return Next::Nothing;
+        };
+        let next = here + size;
+        if k == kind {
+            return Next::At { place: here, next };
+        }
+        here = next;
+    }
+}
+
+// Whether a type is one of the three media headers.
+fn is_media(kind: u32) -> bool
+    ensures { λ r. ⌜ r ≡ isMedia kind ⌝ }
+{
+    match kind {
+        VMHD => true,
+        SMHD => true,
+        STHD => true,
+        _ => false,
+    }
+}
+
+// Whether a box of a type is wanted; 0 wants any of the three media headers.
+pub fn named(want: u32, kind: u32) -> bool
+    ensures { λ r. ⌜ r ≡ named want kind ⌝ }
+{
+    if want == 0 {
+        return is_media(kind);
+    }
+    kind == want
+}
+
+// What is seen after one box more at a place.
+fn again(seen: Seen, at: usize) -> Seen
+    ensures { λ r. ⌜ r ≡ again at seen ⌝ }
+{
+    match seen {
+        Seen::Never => Seen::Once(at),
+        Seen::Once(a) => Seen::Twice(a, at),
+        Seen::Twice(a, b) => Seen::Twice(a, b),
+    }
+}
+
+// What is seen of five wanted types.
+pub struct Five {
+    pub a: Seen,
+    pub b: Seen,
+    pub c: Seen,
+    pub d: Seen,
+    pub e: Seen,
+}
+
+// What is seen of five wanted types among the sibling boxes of a slice.
+pub fn tally(s: &[u8], v: u32, w: u32, x: u32, y: u32, z: u32) -> Five
+    ensures { λ r. ⌜ Tallied (now (s .entry)) v w x y z r ⌝ }
+{
+    let mut at = 0;
+    let mut a = Seen::Never;
+    let mut b = Seen::Never;
+    let mut c = Seen::Never;
+    let mut d = Seen::Never;
+    let mut e = Seen::Never;
+    loop {
+        let l = look(s, at);
+        let Look::Header { size, kind, .. } = l else {
+            return Five { a, b, c, d, e };
+        };
+        if named(v, kind) {
+            a = again(a, at);
+        }
+        if named(w, kind) {
+            b = again(b, at);
+        }
+        if named(x, kind) {
+            c = again(c, at);
+        }
+        if named(y, kind) {
+            d = again(d, at);
+        }
+        if named(z, kind) {
+            e = again(e, at);
+        }
+        at += size;
+    }
+}

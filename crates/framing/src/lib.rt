@@ -1,0 +1,216 @@
+// Framing, rules 2 to 5 over the boxes of a slice, and the index job.
+ghost use mathlib.Core.Path.{_≡_};
+ghost use mathlib.Core.List.{[], _∷_};
+ghost use Prim.Native.Nat.{_+_, _≤_};
+ghost use lib.ListN.{length};
+ghost use lib.Seq.{sets};
+ghost use Rattle.rules.specs.Boxes.{forest};
+ghost use Rattle.rules.specs.Framing.{framing, framed, rows};
+ghost use Rattle.framing.specs.Steps.{Placed, Read, brokenAt, passedTo, Writes};
+ghost use Rattle.framing.specs.Permits.{Permits};
+use rules::Framing;
+use rules::Inside;
+use rules::Look;
+use rules::Path;
+use rules::Verdict;
+
+// Rule 1: the bytes of a slice.
+const BYTE_LIMIT: usize = 1073741824;
+
+// Rule 5: the boxes of a slice.
+const BOX_LIMIT: usize = 4096;
+
+// What reading one box comes to: past it, with the next place and the boxes so far; no byte left; or a refusal.
+enum Step {
+    Past { next: usize, boxes: usize },
+    End,
+    Refused { number: u64, place: usize },
+}
+
+// The step where no box is framed.
+fn broken(l: Look, place: usize) -> Step
+    ensures { λ r. ⌜ r ≡ brokenAt l place ⌝ }
+{
+    match l {
+        Look::Nothing => Step::End,
+        Look::Short => Step::Refused { number: 2, place },
+        Look::Small => Step::Refused { number: 3, place },
+        Look::Beyond => Step::Refused { number: 4, place },
+        Look::Header {
+            head: _,
+            size: _,
+            kind: _,
+        } => Step::End,
+    }
+}
+
+// The step past a container, by how its run is framed.
+fn passed(inner: Framing, next: usize) -> Step
+    ensures { λ r. ⌜ r ≡ passedTo inner next ⌝ }
+{
+    match inner {
+        Framing::Framed(boxes) => Step::Past { next, boxes },
+        Framing::Misframed { number, place } => Step::Refused { number, place },
+    }
+}
+
+// Reads the box at a place of a run whose slice starts at a base, with n boxes before it, and what is inside it.
+fn read_box(s: &[u8], at: usize, path: Path, base: usize, n: usize) -> Step
+    requires { ⌜ Placed base (now s) ⌝ }
+    ensures { λ r. ⌜ Read r (now (s .entry)) at path base n ⌝ }
+{
+    if s.len() <= at {
+        return Step::End;
+    }
+    let place = base + at;
+    if BOX_LIMIT <= n {
+        return Step::Refused { number: 5, place };
+    }
+    let l = boxes::look(s, at);
+    let Look::Header { head, size, kind } = l else {
+        return broken(l, place);
+    };
+    let next = at + size;
+    let Inside::Holds(inner) = boxes::inside(path, kind) else {
+        return Step::Past { next, boxes: n + 1 };
+    };
+    let from = at + head;
+    passed(read_run(&s[from..next], inner, place + head, n + 1), next)
+}
+
+// Reads a run of boxes, from the start of a slice that starts at a base to its end, with n boxes before it.
+pub fn read_run(s: &[u8], path: Path, base: usize, n: usize) -> Framing
+    requires { ⌜ Placed base (now s) ⌝ }
+    ensures { λ r. ⌜ r ≡ framing (forest path (now (s .entry)) 0) base n ⌝ }
+{
+    let mut at = 0;
+    let mut count = n;
+    loop {
+        match read_box(s, at, path, base, count) {
+            Step::Past { next, boxes } => {
+                at = next;
+                count = boxes;
+            }
+            Step::End => {
+                return Framing::Framed(count);
+            }
+            Step::Refused { number, place } => {
+                return Framing::Misframed { number, place };
+            }
+        }
+    }
+}
+
+// How a whole slice is framed: rules 2 to 5.
+pub fn frame(s: &[u8]) -> Framing
+    ensures { λ r. ⌜ r ≡ framed (now (s .entry)) ⌝ }
+{
+    read_run(s, Path::Top, 0, 0)
+}
+
+// What writing one box comes to: past it, with the next place of the slice and of the table; or no box is there.
+enum Wrote {
+    Past { next: usize, row: usize },
+    Done,
+}
+
+// Writes four numbers from a place of the table.
+fn put(t: &mut [u64], row: usize, offset: u64, size: u64, kind: u64, depth: u64)
+    requires { ⌜ row + 4 ≤ length (now t) ⌝ }
+    ensures { λ _. ⌜ now (t .exit) ≡ sets (now (t .entry)) row (offset ∷ size ∷ kind ∷ depth ∷ []) ⌝ }
+{
+    t[row] = offset;
+    t[row + 1] = size;
+    t[row + 2] = kind;
+    t[row + 3] = depth;
+}
+
+// Writes the index of the box at a place, and of what is inside it, from a place of the table.
+fn write_box(
+    s: &[u8],
+    at: usize,
+    path: Path,
+    base: usize,
+    depth: u64,
+    t: &mut [u64],
+    row: usize,
+) -> Wrote
+    requires { ⌜ Placed base (now s) ⌝ }
+    requires { ⌜ depth ≤ base ⌝ }
+    requires { ⌜ row + length (rows (forest path (now s) at) base depth) ≤ length (now t) ⌝ }
+    ensures { λ r. ⌜ Writes r (now (s .entry)) at path base depth row (now (t .entry)) (now (t .exit)) ⌝ }
+{
+    let Look::Header { head, size, kind } = boxes::look(s, at) else {
+        return Wrote::Done;
+    };
+    let place = base + at;
+    put(t, row, place as u64, size as u64, kind as u64, depth);
+    let next = at + size;
+    let Inside::Holds(inner) = boxes::inside(path, kind) else {
+        return Wrote::Past { next, row: row + 4 };
+    };
+    let from = at + head;
+    let end = write_run(&s[from..next], inner, place + head, depth + 1, t, row + 4);
+    Wrote::Past { next, row: end }
+}
+
+// Writes the index of a run of boxes from a place of the table; answers the place after it.
+fn write_run(s: &[u8], path: Path, base: usize, depth: u64, t: &mut [u64], row: usize) -> usize
+    requires { ⌜ Placed base (now s) ⌝ }
+    requires { ⌜ depth ≤ base ⌝ }
+    requires { ⌜ row + length (rows (forest path (now s) 0) base depth) ≤ length (now t) ⌝ }
+    ensures { λ r. ⌜ r ≡ row + length (rows (forest path (now (s .entry)) 0) base depth) ⌝ }
+    ensures { λ r. ⌜ now (t .exit) ≡ sets (now (t .entry)) row (rows (forest path (now (s .entry)) 0) base depth) ⌝ }
+{
+    let mut at = 0;
+    let mut to = row;
+    loop {
+        match write_box(s, at, path, base, depth, t, to) {
+            Wrote::Past { next, row } => {
+                at = next;
+                to = row;
+            }
+            Wrote::Done => {
+                return to;
+            }
+        }
+    }
+}
+
+// A refusal: no count, no timescale.
+fn refusal(number: u64, place: u64) -> Verdict
+    ensures { λ r. ⌜ r ≡ record { number = number; track = 0; place = place; count = 0; timescale = 0 } ⌝ }
+{
+    Verdict {
+        number,
+        track: 0,
+        place,
+        count: 0,
+        timescale: 0,
+    }
+}
+
+// The index job: rules 1 to 5, then room; four numbers a box, or no number.
+pub fn index(s: &[u8], t: &mut [u64]) -> Verdict
+    ensures { λ r. ⌜ Permits (now (s .entry)) (now (t .entry)) r (now (t .exit)) ⌝ }
+{
+    if BYTE_LIMIT < s.len() {
+        return refusal(1, 0);
+    }
+    match frame(s) {
+        Framing::Misframed { number, place } => refusal(number, place as u64),
+        Framing::Framed(boxes) => {
+            if t.len() / 4 < boxes {
+                return refusal(23, 0);
+            }
+            write_run(s, Path::Top, 0, 0, t, 0);
+            Verdict {
+                number: 0,
+                track: 0,
+                place: 0,
+                count: boxes as u64,
+                timescale: 0,
+            }
+        }
+    }
+}

@@ -1,0 +1,24 @@
+-- Laws of a function that goes through rules in their order: past a rule that holds, and at one that breaks.
+use mathlib.Core.Path.{_≡_, sym, _∙_, ap}
+use mathlib.Core.Bool.{Bool}
+use Prim.Native.Nat.{ℕ}
+use Rattle.rules.specs.Rules.{_then_, must}
+use Rattle.rules.specs.declared.Rule.{Rule}
+use Rattle.rules.specs.declared.Rule.the-variants.{Holds, Breaks}
+use Rattle.rules.proofs.Then.{then-holds, then-breaks}
+
+-- what comes after a rule that holds
+pub go : {r x z q : Rule} → r ≡ x → r ≡ Holds → z ≡ q → z ≡ (x then q)
+go {q = q} e h k = k ∙ sym (then-holds q (sym e ∙ h))
+
+-- a rule that breaks is handed up
+pub stop : {r x : Rule} {n t p : ℕ} (q : Rule) → r ≡ x → r ≡ Breaks n t p → r ≡ (x then q)
+stop q e h = h ∙ sym (then-breaks q (sym e ∙ h))
+
+-- the rule that was found to hold
+pub holds : {r x : Rule} → r ≡ x → r ≡ Holds → x ≡ Holds
+holds e h = sym e ∙ h
+
+-- a test that was computed
+pub tested : {r : Rule} {a b : Bool} (n p : ℕ) → r ≡ must a n p → a ≡ b → r ≡ must b n p
+tested n p e h = e ∙ ap (λ (t : Bool). must t n p) h

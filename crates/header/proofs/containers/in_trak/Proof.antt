@@ -1,0 +1,38 @@
+-- `header::containers::in_trak` meets its contract. Assumes nothing.
+use borrow.Author.Needs.{needs}
+use Rattle.header.specs.Counts.{trakBy}
+use Rattle.header.proofs.InOrder.{go, stop}
+use Rattle.header.proofs.containers.in_trak.Statement.{statement}
+use Rattle.header.proofs.containers.in_trak.Tie as tie
+
+returns : tie.Need-returns
+unfolding trakBy
+returns c = stop _ (c .before .before .one .ensures) (c .enum-told2 .given .1)
+
+returns-2 : tie.Need-returns-2
+unfolding trakBy
+returns-2 c =
+    go (c .before .before .before .before .before .one .ensures) (c .before .before .before .enum-told .given .1)
+    (stop _ (c .before .before .at-most-one .ensures) (c .enum-told4 .given .1))
+
+returns-3 : tie.Need-returns-3
+unfolding trakBy
+returns-3 c =
+    go (c .before .before .before .before .before .before .one .ensures) (c .before .before .before .before .enum-told .given .1)
+    (go (c .before .before .before .at-most-one .ensures) (c .before .enum-told3 .given .1)
+    (c .one2 .ensures))
+
+pub in-trak-spec : {M : Type 1} → statement M
+in-trak-spec =
+    tie.close
+    (tie.spec
+    (λ c κs. search needs)
+    (λ c. search needs)
+    (λ c. search needs)
+    returns
+    (λ c κs. search needs)
+    (λ c. search needs)
+    (λ c. search needs)
+    returns-2
+    (λ c κs. search needs)
+    returns-3)

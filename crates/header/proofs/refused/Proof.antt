@@ -1,0 +1,15 @@
+-- `header::refused` meets its contract. Assumes nothing.
+use mathlib.Core.Path.{sym, ap}
+use borrow.Author.Needs.{needs}
+use Rattle.header.specs.Heads.{refused}
+use Rattle.header.proofs.refused.Statement.{statement}
+use Rattle.header.proofs.refused.Tie as tie
+
+returns : tie.Need-returns
+returns c = sym (ap refused (c .enum-told .given .1))
+
+returns-2 : tie.Need-returns-2
+returns-2 c = sym (ap refused (c .before .r .given .1))
+
+pub refused-spec : {M : Type 1} → statement M
+refused-spec = tie.close (tie.spec (λ c. search needs) (λ c. search needs) returns returns-2)
