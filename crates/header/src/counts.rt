@@ -119,16 +119,8 @@ fn rule7lower(m: &[u8], base: u64, u: Upper) -> Counted
     let Rule::Holds = dref else {
         return refusal(dref);
     };
-    let stbl = walk(
-        m,
-        base,
-        place(minf.from, in_stbl),
-        STSD,
-        STTS,
-        STSC,
-        STSZ,
-        STCO,
-    );
+    let at = place(minf.from, in_stbl);
+    let stbl = walk(m, base, at, STSD, STTS, STSC, STSZ, STCO);
     let tables = five(stbl);
     let Rule::Holds = tables else {
         return refusal(tables);
@@ -153,16 +145,8 @@ pub fn rule7(m: &[u8], base: u64) -> Counted
         return refusal(boxes);
     };
     let seen = moov.b;
-    let trak = walk(
-        m,
-        base,
-        place(moov.from, seen),
-        TKHD,
-        EDTS,
-        MDIA,
-        NONE,
-        NONE,
-    );
+    let at = place(moov.from, seen);
+    let trak = walk(m, base, at, TKHD, EDTS, MDIA, NONE, NONE);
     let track = in_trak(trak);
     let Rule::Holds = track else {
         return refusal(track);
@@ -173,16 +157,8 @@ pub fn rule7(m: &[u8], base: u64) -> Counted
         return refusal(edits);
     };
     let seen = trak.c;
-    let mdia = walk(
-        m,
-        base,
-        place(trak.from, seen),
-        MDHD,
-        HDLR,
-        ELNG,
-        MINF,
-        NONE,
-    );
+    let at = place(trak.from, seen);
+    let mdia = walk(m, base, at, MDHD, HDLR, ELNG, MINF, NONE);
     let media = in_mdia(mdia);
     let Rule::Holds = media else {
         return refusal(media);

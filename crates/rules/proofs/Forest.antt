@@ -1,4 +1,5 @@
--- Laws of boxes in bytes: what one header tells, the forest and the run of siblings box by box. Fuel is dealt with here and nowhere else.
+-- Laws of boxes in bytes: what one header tells, the forest and the run of siblings box by box. Fuel is dealt with here; beside it only
+-- two inductions over a forest, in Walk and in Refusals, see it.
 use mathlib.Core.Path.{_≡_, refl, sym, ap, _∙_}
 use mathlib.Core.List.{List, [], _∷_}
 use mathlib.Core.Bool.{Bool, true, false}

@@ -1,2 +1,14 @@
-pub mod Forest
 pub mod Then
+pub mod Forest
+pub mod Laws
+pub mod Walk
+pub mod Samples
+pub mod Stuck
+pub mod Tiling
+pub mod Boundaries
+pub mod Plays
+pub mod FirstHalf
+pub mod Steps
+pub mod SecondHalf
+pub mod Refusals
+pub mod Caller

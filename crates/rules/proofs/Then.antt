@@ -1,5 +1,5 @@
 -- Laws of rules in their order: what a broken rule, a rule that holds, and a test come to.
-use mathlib.Core.Path.{_≡_, refl, sym, _∙_, ap}
+use mathlib.Core.Path.{_≡_, refl, sym, subst}
 use mathlib.Core.Bool.{Bool, true, false}
 use Prim.Native.Nat.{ℕ}
 use Rattle.rules.specs.Rules.{_then_, must, ofTrack}
@@ -36,14 +36,37 @@ pub must-false : {b : Bool} (n p : ℕ) → b ≡ false → must b n p ≡ Break
 unfolding must
 must-false n p e = rw e
 
--- both rules of two that hold
-pub then-both : (r q : Rule) → (r then q) ≡ Holds → (r ≡ Holds) × (q ≡ Holds)
+-- whether a rule holds, as a type
+abbrev Kept : Rule → Type 0
+Kept Holds = Unit {0}
+Kept (Breaks n t p) = ⊥
+
+-- a rule that breaks doesn't hold
+pub broken : {n t p : ℕ} → Breaks n t p ≡ Holds → ⊥
+broken h = subst Kept (sym h) tt
+
+-- of two rules that hold together the first holds, the second does, both do
+pub then-first : (r q : Rule) → (r then q) ≡ Holds → r ≡ Holds
 unfolding _then_
-then-both Holds q e = (refl, e)
-then-both (Breaks n t p) q e = (e, cc)
+then-first Holds q e = refl
+then-first (Breaks n t p) q e = e
+
+pub then-second : (r q : Rule) → (r then q) ≡ Holds → q ≡ Holds
+unfolding _then_
+then-second Holds q e = e
+then-second (Breaks n t p) q e = absurd (broken e)
+
+pub then-both : (r q : Rule) → (r then q) ≡ Holds → (r ≡ Holds) × (q ≡ Holds)
+then-both r q e = (then-first r q e, then-second r q e)
 
 -- a test whose rule holds
 pub must-holds : (b : Bool) (n p : ℕ) → must b n p ≡ Holds → b ≡ true
 unfolding must
 must-holds true n p e = refl
-must-holds false n p e = cc
+must-holds false n p e = absurd (broken e)
+
+-- a track's rule that holds in a set holds by itself
+pub of-track : (k : ℕ) (r : Rule) → ofTrack k r ≡ Holds → r ≡ Holds
+unfolding ofTrack
+of-track k Holds e = refl
+of-track k (Breaks n t p) e = absurd (broken e)

@@ -1,7 +1,6 @@
 -- Boxes in bytes: one header, the forest of boxes in a slice, runs of siblings, and what is seen of a kind among them.
 use Prim.Native.Nat.{ℕ, zero, suc, _+_, _-_}
 use mathlib.Core.List.{List, [], _∷_}
-use mathlib.Core.Bool.{Bool}
 use lib.ListN.{length, take, drop}
 use lib.Dec.{ltb, eqb}
 use Rattle.numbers.specs.Numbers.{be4, be8, when}
@@ -72,7 +71,7 @@ abbrev pub within : (Path → List ℕ → Forest) → Inside → List ℕ → F
 within g Leaf s = end
 within g (Holds q) s = g q s
 
--- the forest from a place, of at most so many boxes one after the other
+-- the forest from a place: at most so many boxes one after the other, and nested at most so deep
 unfoldable pub grow : ℕ → Path → List ℕ → ℕ → Forest
 grow zero p s at = end
 grow (suc f) p s at =

@@ -1,7 +1,6 @@
 -- The bundle: records of a mark, a length and a track; rule 24.
 use Prim.Native.Nat.{ℕ, zero, suc, _+_, _-_}
 use mathlib.Core.List.{List, [], _∷_}
-use mathlib.Core.Bool.{Bool, not}
 use lib.ListN.{length}
 use lib.Dec.{ltb, eqb}
 use Rattle.numbers.specs.Numbers.{be2, be4, when}

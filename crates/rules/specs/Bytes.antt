@@ -1,5 +1,5 @@
 -- Boxes written as bytes, for the examples: the track T of document 01 and what is made of it.
-use Prim.Native.Nat.{ℕ, _+_, _-_, _*_, _/_, _%_}
+use Prim.Native.Nat.{ℕ, _+_, _/_, _%_}
 use mathlib.Core.List.{List, [], _∷_, _++_}
 use lib.ListN.{length, replicate}
 use Rattle.rules.specs.Kinds.{ftyp, moov, mvhd, trak, tkhd, mdia, mdhd, hdlr, minf, vmhd, dinf, dref, stbl, stsd, stts, stsc, stsz, stco, mvex, trex, moof, mfhd, traf, tfhd, tfdt, trun, mdat, cmfc, vide}
@@ -50,12 +50,17 @@ unfoldable pub run : ℕ → ℕ → List ℕ → List ℕ
 run flags offset more =
     boxed trun (in4 (0x301 + flags) ++ in4 2 ++ in4 offset ++ more ++ in4 90000 ++ in4 10 ++ in4 90000 ++ in4 20)
 
--- a `moof` of one run
+-- a `moof` of one run, with its `tfdt` and the run
+unfoldable pub moofWith : List ℕ → List ℕ → List ℕ
+moofWith t r =
+    boxed moof (boxed mfhd (zeros 8) ++ boxed traf (boxed tfhd (in4 0x20000 ++ in4 1) ++ t ++ r))
+
+-- the same from a start in four bytes, and in eight
 unfoldable pub moofOf : ℕ → List ℕ → List ℕ
-moofOf start r =
-    boxed moof
-    (boxed mfhd (zeros 8)
-    ++ boxed traf (boxed tfhd (in4 0x20000 ++ in4 1) ++ boxed tfdt (zeros 4 ++ in4 start) ++ r))
+moofOf start r = moofWith (boxed tfdt (zeros 4 ++ in4 start)) r
+
+unfoldable pub moofOf8 : ℕ → List ℕ → List ℕ
+moofOf8 start r = moofWith (boxed tfdt (in4 0x1000000 ++ in8 start)) r
 
 -- a fragment from a start, with its data offset and the payload's length
 unfoldable pub fragment : ℕ → ℕ → ℕ → List ℕ

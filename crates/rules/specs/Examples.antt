@@ -1,76 +1,132 @@
--- The starred examples of document 01, as one list and one statement, and the limits at both sides of their bounds.
-use Prim.Native.Nat.{ℕ, _+_, _-_, _*_}
+-- The starred examples of document 01, as one list and one statement; then the limits, each at both sides of its bound, and the order of the rules.
+use Prim.Native.Nat.{ℕ, zero, suc, _*_}
 use mathlib.Core.List.{List, [], _∷_, _++_, map}
 use mathlib.Core.Path.{_≡_, refl}
-use lib.ListN.{length, replicate}
-use Rattle.numbers.specs.Numbers.{when}
-use Rattle.rules.specs.Kinds.{letters}
-use Rattle.rules.specs.Bytes.{in4, in8, zeros, boxed, header, fragment, trackT}
+use lib.ListN.{take}
+use Rattle.rules.specs.Kinds.{vmhd, trun, mdat, vide, soun, letters}
+use Rattle.rules.specs.Bytes.{in4, in8, zeros, boxed, headerWith, header, run, moofOf, moofOf8, fragment, trackT}
 use Rattle.rules.specs.Computed.{computed}
 use Rattle.rules.specs.Boxes.{forest}
-use Rattle.rules.specs.Framing.{framing}
-use Rattle.rules.specs.Track.{rule1, Outcome, trackOutcome}
+use Rattle.rules.specs.Framing.{framing, framingRule}
+use Rattle.rules.specs.Fragment.{rule18}
+use Rattle.rules.specs.Bundle.{rule24}
+use Rattle.rules.specs.Track.{rule1, rulesOfHeader, ruling, Outcome, trackOutcome}
 use Rattle.rules.specs.declared.Path.the-variants.{Top}
-use Rattle.rules.specs.declared.Framing.{Framing}
-use Rattle.rules.specs.declared.Framing.the-variants.{Framed, Misframed}
 use Rattle.rules.specs.declared.Rule.{Rule}
 use Rattle.rules.specs.declared.Rule.the-variants.{Holds, Breaks}
-use Rattle.rules.specs.declared.Verdict.{Verdict}
 
 -- the type `free`, which no rule names
 abbrev pub free : ℕ
 free = letters 0x66 0x72 0x65 0x65
 
--- an example: a name for the reader's eye is its comment; the bytes, and what the track job answers on a table of four nines
-unfoldable pub starred : List (List ℕ)
-starred =
-    -- no bytes; 7 bytes
-    []
-    ∷ zeros 7
-    -- 8 bytes, type `free`: sizes 8, 7, 9, 1
-    ∷ (in4 8 ++ in4 free)
-    ∷ (in4 7 ++ in4 free)
-    ∷ (in4 9 ++ in4 free)
-    ∷ (in4 1 ++ in4 free)
-    -- 16 bytes, `free`: long sizes 16 and 2^64 - 1
-    ∷ (in4 1 ++ in4 free ++ in8 16)
-    ∷ (in4 1 ++ in4 free ++ in8 18446744073709551615)
-    -- T; second `tfdt` 180001; data offset 107; a spare byte in `mdat`, size 39
-    ∷ trackT
-    ∷ (header ++ fragment 0 108 30 ++ fragment 180001 108 30)
-    ∷ (header ++ fragment 0 107 30 ++ fragment 180000 108 30)
-    ∷ (header ++ fragment 0 108 31 ++ fragment 180000 108 30)
-    ∷ []
+-- the table that is lent: four nines
+abbrev pub nines : List ℕ
+nines = 9 ∷ 9 ∷ 9 ∷ 9 ∷ []
 
--- a refusal of the list, with its number and its place: the table keeps its four nines
+-- a refusal with its number and its place: no count, no timescale, the table as it was
 unfoldable pub refusal : ℕ → ℕ → Outcome
 refusal n place =
-    record {
-      verdict = record { number = n; track = 0; place = place; count = 0; timescale = 0 };
-      table = 9 ∷ 9 ∷ 9 ∷ 9 ∷ [];
-    }
+    record { verdict = record { number = n; track = 0; place = place; count = 0; timescale = 0 }; table = nines }
 
--- what document 01 says of each
-unfoldable pub answers : List Outcome
-answers =
-    refusal 6 0
-    ∷ refusal 2 0
-    ∷ refusal 6 0
-    ∷ refusal 3 0
-    ∷ refusal 4 0
-    ∷ refusal 2 0
-    ∷ refusal 6 0
-    ∷ refusal 4 0
-    ∷ record {
+-- T's acceptance: two fragments, timescale 90000, three boundaries in the table and nothing after them changed
+unfoldable pub acceptance : Outcome
+acceptance =
+    record {
       verdict = record { number = 0; track = 0; place = 0; count = 2; timescale = 90000 };
       table = 0 ∷ 180000 ∷ 360000 ∷ 9 ∷ [];
     }
-    ∷ refusal 19 678
-    ∷ refusal 22 556
-    ∷ refusal 22 592
+
+-- each starred example: the bytes of a track, and what document 01 says of them
+unfoldable pub starred : List (List ℕ × Outcome)
+starred =
+    -- no bytes; 7 bytes
+    ([], refusal 6 0)
+    ∷ (zeros 7, refusal 2 0)
+    -- 8 bytes, type `free`: sizes 8, 7, 9, 1
+    ∷ (in4 8 ++ in4 free, refusal 6 0)
+    ∷ (in4 7 ++ in4 free, refusal 3 0)
+    ∷ (in4 9 ++ in4 free, refusal 4 0)
+    ∷ (in4 1 ++ in4 free, refusal 2 0)
+    -- 16 bytes, `free`: long sizes 16 and 2^64 - 1
+    ∷ (in4 1 ++ in4 free ++ in8 16, refusal 6 0)
+    ∷ (in4 1 ++ in4 free ++ in8 18446744073709551615, refusal 4 0)
+    -- T; second `tfdt` 180001; data offset 107; a spare byte in `mdat`, size 39
+    ∷ (trackT, acceptance)
+    ∷ (header ++ fragment 0 108 30 ++ fragment 180001 108 30, refusal 19 678)
+    ∷ (header ++ fragment 0 107 30 ++ fragment 180000 108 30, refusal 22 556)
+    ∷ (header ++ fragment 0 108 31 ++ fragment 180000 108 30, refusal 22 592)
     ∷ []
 
 -- the twelve starred examples, by computation
-pub starred-examples : map (λ s. trackOutcome s (9 ∷ 9 ∷ 9 ∷ 9 ∷ [])) starred ≡ answers
-unfolding computed starred refusal answers
+pub starred-examples : map (λ e. trackOutcome (e .0) nines) starred ≡ map (λ e. e .1) starred
+unfolding computed starred refusal acceptance
 starred-examples = refl
+
+-- 2 to 5 of what is left of a slice after n boxes of 8 bytes each
+unfoldable pub afterBoxes : ℕ → List ℕ → Rule
+afterBoxes n s = framingRule (framing (forest Top s 0) (8 * n) n)
+
+-- the limits of bytes and of boxes: what the rules say at the last number allowed and one beyond, and what document 01 says
+unfoldable pub limits : List (Rule × Rule)
+limits =
+    -- 1: 1,073,741,824 bytes
+    (rule1 1073741824, Holds)
+    ∷ (rule1 1073741825, Breaks 1 0 0)
+    -- 5: the 4,096th box, and one box more
+    ∷ (afterBoxes 4095 (in4 8 ++ in4 free), Holds)
+    ∷ (afterBoxes 4096 (in4 8 ++ in4 free), Breaks 5 0 32768)
+    -- 5: no byte after 4,096 boxes; stray bytes after 4,095 (2), and after 4,096 (5, which comes before 2)
+    ∷ (afterBoxes 4096 [], Holds)
+    ∷ (afterBoxes 4095 (zeros 7), Breaks 2 0 32760)
+    ∷ (afterBoxes 4096 (zeros 7), Breaks 5 0 32768)
+    ∷ []
+
+-- the limits, by computation
+pub limit-examples : map (λ e. e .0) limits ≡ map (λ e. e .1) limits
+unfolding computed afterBoxes limits
+limit-examples = refl
+
+-- a track of one fragment of 180,000 ticks, whose start has eight bytes: `tfdt` 20, `moof` 104, offset 112
+unfoldable pub startsAt : ℕ → List ℕ
+startsAt start = header ++ moofOf8 start (run 0 112 []) ++ boxed mdat (zeros 30)
+
+-- a `moof` whose one run has so many samples, with no fields of their own
+unfoldable pub samples : ℕ → List ℕ
+samples n = moofOf 0 (boxed trun (in4 0 ++ in4 n))
+
+-- a bundle of so many empty tracks
+unfoldable pub recordsOf : ℕ → List ℕ
+recordsOf zero = []
+recordsOf (suc n) = (0x53 ∷ 0x57 ∷ in4 0) ++ recordsOf n
+
+-- the limits of samples, of ticks and of records
+unfoldable pub furtherLimits : List (Rule × Rule)
+furtherLimits =
+    -- 18: 65,536 samples
+    (rule18 0 (samples 65536), Holds)
+    ∷ (rule18 0 (samples 65537), Breaks 18 0 24)
+    -- 20: an end at tick 2^63 - 1, and one tick later
+    ∷ (ruling (startsAt 9223372036854595807), Holds)
+    ∷ (ruling (startsAt 9223372036854595808), Breaks 20 0 560)
+    -- 24: 16 records, and 17
+    ∷ (rule24 (recordsOf 16), Holds)
+    ∷ (rule24 (recordsOf 17), Breaks 24 16 96)
+    ∷ []
+
+pub further-limit-examples : map (λ e. e .0) furtherLimits ≡ map (λ e. e .1) furtherLimits
+unfolding computed startsAt samples recordsOf furtherLimits
+further-limit-examples = refl
+
+-- headers that break two rules, and the one that comes first
+unfoldable pub orders : List (Rule × Rule)
+orders =
+    -- timescale 0, and a handler that doesn't pair with its media header: 10, not 12
+    (rulesOfHeader (headerWith 0 soun vmhd), Breaks 10 0 244)
+    -- timescale 0, and the last byte of `moov` cut off: 4, not 10
+    ∷ (ruling (take 491 (headerWith 0 vide vmhd)), Breaks 4 0 20)
+    ∷ []
+
+-- the order, by computation
+pub order-examples : map (λ e. e .0) orders ≡ map (λ e. e .1) orders
+unfolding computed orders
+order-examples = refl

@@ -1,11 +1,12 @@
 -- Rules 14 to 22: one fragment, over the whole bytes of its `moof` (m), which starts at a base in the track, the header length
--- and the payload length of its `mdat`, and a few numbers: what the header tells (h), whether it is the first, the previous end.
-use Prim.Native.Nat.{ℕ, zero, suc, _+_, _-_, _*_}
+-- and the payload length of its `mdat`, and a few numbers: what the header tells (the track ID, id; the `trex` defaults, d), how many
+-- fragments stand before it (k), and the previous end (prev).
+use Prim.Native.Nat.{ℕ, zero, suc, _+_, _*_}
 use mathlib.Core.List.{List, [], _∷_, map}
 use mathlib.Core.Bool.{Bool, true, false, not, _&&_, _||_}
 use lib.ListN.{length}
 use lib.Dec.{leb, eqb}
-use Rattle.numbers.specs.Numbers.{be3, be4, be8, has, signed, isPlace, when}
+use Rattle.numbers.specs.Numbers.{be3, be8, has, signed, isPlace, when}
 use Rattle.rules.specs.Kinds.{mfhd, traf, tfhd, tfdt, trun}
 use Rattle.rules.specs.Limits.{sampleLimit, tickLimit}
 use Rattle.rules.specs.Rules.{_then_, must}
@@ -14,7 +15,6 @@ use Rattle.rules.specs.Header.{one, someOf, shortSize, version, field, v
 use Rattle.rules.specs.declared.Rule.{Rule}
 use Rattle.rules.specs.declared.Rule.the-variants.{Holds}
 use Rattle.rules.specs.declared.Defaults.{Defaults}
-use Rattle.rules.specs.declared.Header.{Header}
 
 -- where the fragment's boxes stand in `moof`
 abbrev pub trafIn : List ℕ → ℕ

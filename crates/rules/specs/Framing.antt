@@ -1,12 +1,10 @@
 -- Rules 2 to 5, box by box in byte order, and the index.
-use Prim.Native.Nat.{ℕ, suc, _+_}
+use Prim.Native.Nat.{ℕ, _+_}
 use mathlib.Core.List.{List, [], _∷_, _++_}
-use mathlib.Core.Bool.{Bool}
 use lib.Dec.{leb}
 use Rattle.numbers.specs.Numbers.{when}
 use Rattle.rules.specs.Limits.{boxLimit}
-use Rattle.rules.specs.Boxes.{Box, Forest, end, bad, node, forest}
-use Rattle.rules.specs.declared.Path.{Path}
+use Rattle.rules.specs.Boxes.{Forest, end, bad, node, forest}
 use Rattle.rules.specs.declared.Path.the-variants.{Top}
 use Rattle.rules.specs.declared.Framing.{Framing}
 use Rattle.rules.specs.declared.Framing.the-variants.{Framed, Misframed}

@@ -2,7 +2,7 @@
 -- where the box stands in the track: `ftyp` at 0, `moov` at a base.
 use Prim.Native.Nat.{ℕ, zero, suc, _+_, _-_, _*_, _/_, _%_}
 use mathlib.Core.List.{List}
-use mathlib.Core.Bool.{Bool, true, false, not, _||_, _&&_}
+use mathlib.Core.Bool.{Bool, false, not, _||_}
 use lib.Dec.{leb, eqb}
 use Rattle.numbers.specs.Numbers.{byte, be4, when}
 use Rattle.rules.specs.Kinds.{mvhd, trak, tkhd, edts, elst, mdia, mdhd, hdlr, elng, minf, vmhd, smhd, sthd, media, dinf, dref, stbl, stsd, stts, stsc, stsz, stco, mvex, trex, cmfc, cmf2, vide, soun, subt}

@@ -1,5 +1,5 @@
 -- The player: a written rule over the tracks' bytes, and never over a verdict or a table.
-use Prim.Native.Nat.{ℕ, zero, suc, _+_, _-_}
+use Prim.Native.Nat.{ℕ, zero, suc, _+_}
 use mathlib.Core.List.{List, [], _∷_, map}
 use mathlib.Core.Bool.{Bool, true, false, _&&_}
 use mathlib.Core.Option.{Option, none, some}
@@ -35,11 +35,11 @@ pub record Stream : Type 0 where
 
 -- the first n samples of a run, whose bytes begin at `start`: each begins at the next byte and ends inside the `mdat`
 unfoldable pub samplesFed : List ℕ → Defaults → ℕ → ℤ → ℕ → ℕ → ℕ → Bool
-samplesFed m d r start next end zero = true
-samplesFed m d r start next end (suc i) =
-    samplesFed m d r start next end i
+samplesFed m d r start next till zero = true
+samplesFed m d r start next till (suc i) =
+    samplesFed m d r start next till i
     && isPlace (start +ℤ pos (sumTo (bytesOf m d r) i)) (next + sumTo (bytesOf m d r) i)
-    && leb (next + sumTo (bytesOf m d r) (suc i)) end
+    && leb (next + sumTo (bytesOf m d r) (suc i)) till
 
 -- where a run's samples begin: at the `moof` start plus its offset; without one, where the run before ended
 unfoldable pub runStart : ℕ → List ℕ → ℤ → ℕ → ℤ
@@ -47,10 +47,10 @@ runStart x m before r = when (has (flagsOf m r) 0x1) (pos x +ℤ signed (field m
 
 -- the runs' samples, where the next byte is at `next` and the run before ended at `before`
 unfoldable pub runsFed : ℕ → List ℕ → Defaults → ℤ → ℕ → ℕ → List ℕ → Bool
-runsFed x m d before next end [] = true
-runsFed x m d before next end (r ∷ rs) =
-    samplesFed m d r (runStart x m before r) next end (countOf m r)
-    && runsFed x m d (runStart x m before r +ℤ pos (runBytes m d r)) (next + runBytes m d r) end rs
+runsFed x m d before next till [] = true
+runsFed x m d before next till (r ∷ rs) =
+    samplesFed m d r (runStart x m before r) next till (countOf m r)
+    && runsFed x m d (runStart x m before r +ℤ pos (runBytes m d r)) (next + runBytes m d r) till rs
 
 -- the fragment at x: from the first byte of its `mdat` payload, the first run starting at the `moof` start where it has no offset
 unfoldable pub fedAt : List ℕ → Header → ℕ → Bool
@@ -111,7 +111,7 @@ goes g t p = t .sound && fits (g .scale) (t .scale) && p .sync && fits (g .clock
 unfoldable pub after : State → Stream → Piece → State
 after g t p = record { number = g .number + 1; clock = some (p .to); scale = some (t .scale) }
 
--- a step on a track: none where it gets stuck, else the fragment taken
+-- the fragment where the step goes through, none where it gets stuck
 unfoldable pub take? : Bool → Piece → Option Piece
 take? true p = some p
 take? false p = none
@@ -121,7 +121,7 @@ abbrev pub onOption : {A B : Type 0} → Option A → B → (A → B) → B
 onOption none b f = b
 onOption (some a) b f = f a
 
--- a step on a track: stuck if it has no fragment of that number
+-- a step on a track: stuck if it has no fragment of that number, else by what `goes` says of it
 unfoldable pub stepOn : State → Stream → Option Piece
 stepOn g t = onOption (getElem? (t .pieces) (g .number)) none (λ p. take? (goes g t p) p)
 

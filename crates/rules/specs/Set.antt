@@ -1,8 +1,7 @@
 -- The switching set: tracks in order, then rules 25 to 28 for track 1, for track 2, and so on, then room.
-use Prim.Native.Nat.{ℕ, suc, _+_}
+use Prim.Native.Nat.{ℕ, _+_}
 use mathlib.Core.List.{List, [], _∷_}
-use mathlib.Core.Bool.{Bool}
-use lib.ListN.{length, drop, getD}
+use lib.ListN.{length, drop}
 use lib.Dec.{eqb}
 use Rattle.rules.specs.Rules.{_then_, must, ofTrack, onRule}
 use Rattle.rules.specs.Header.{placesIn}
@@ -39,7 +38,8 @@ abbrev pub firstOr : ℕ → List ℕ → ℕ
 firstOr p [] = p
 firstOr p (x ∷ xs) = x
 
--- 28 over boundaries of track 0, boundaries of the track, and its fragments from here on; the last fragment's place stands in for a missing one
+-- 28 over boundaries of track 0, boundaries of the track, and its fragments from here on; the last fragment's place stands in for a missing one.
+-- It is tried behind 27: of two tracks with one number of fragments, so with one number of boundaries.
 unfoldable pub rule28From : ℕ → List ℕ → List ℕ → List ℕ → Rule
 rule28From last [] ys ps = Holds
 rule28From last (x ∷ xs) ys ps =

@@ -1,7 +1,6 @@
 -- The track: what its bytes say, whether every rule holds, and the outcome of the index job and the track job.
-use Prim.Native.Nat.{ℕ, suc, _+_, _-_, _*_}
+use Prim.Native.Nat.{ℕ, _+_, _-_}
 use mathlib.Core.List.{List, [], _∷_, _++_}
-use mathlib.Core.Bool.{Bool}
 use lib.ListN.{length, drop}
 use lib.Dec.{leb, ltb}
 use Rattle.numbers.specs.Numbers.{when}
@@ -13,11 +12,9 @@ use Rattle.rules.specs.Framing.{framed, onFraming, rules2to5, rows}
 use Rattle.rules.specs.Order.{rule6}
 use Rattle.rules.specs.Header.{rules7to13, headerIn}
 use Rattle.rules.specs.Fragment.{shape, timing, startOf, endOf}
-use Rattle.rules.specs.declared.Path.{Path}
 use Rattle.rules.specs.declared.Path.the-variants.{Top}
 use Rattle.rules.specs.declared.Rule.{Rule}
-use Rattle.rules.specs.declared.Rule.the-variants.{Holds, Breaks}
-use Rattle.rules.specs.declared.Defaults.{Defaults}
+use Rattle.rules.specs.declared.Rule.the-variants.{Holds}
 use Rattle.rules.specs.declared.Header.{Header}
 use Rattle.rules.specs.declared.Verdict.{Verdict}
 
@@ -95,8 +92,8 @@ timescale s = headerOf s .timescale
 
 -- the boundaries of fragments at places: each start, and the last end
 unfoldable pub ticksAfter : List ℕ → Header → ℕ → List ℕ → List ℕ
-ticksAfter s h end [] = end ∷ []
-ticksAfter s h end (x ∷ xs) = startAt s x ∷ ticksAfter s h (endAt s h x) xs
+ticksAfter s h last [] = last ∷ []
+ticksAfter s h last (x ∷ xs) = startAt s x ∷ ticksAfter s h (endAt s h x) xs
 
 unfoldable pub ticks : List ℕ → Header → List ℕ → List ℕ
 ticks s h [] = []
@@ -112,8 +109,8 @@ pub record Outcome : Type 0 where
 
 -- a refusal: no count, no timescale, the table unchanged
 unfoldable pub refused : ℕ → ℕ → ℕ → List ℕ → Outcome
-refused n track place t =
-    record { verdict = record { number = n; track = track; place = place; count = 0; timescale = 0 }; table = t }
+refused n k place t =
+    record { verdict = record { number = n; track = k; place = place; count = 0; timescale = 0 }; table = t }
 
 -- an acceptance: the table's first numbers are those given, and nothing after them changes
 unfoldable pub accepted : ℕ → ℕ → List ℕ → List ℕ → Outcome

@@ -1,0 +1,7 @@
+pub mod Counted
+pub mod Flags
+pub mod Judged
+pub mod Standing
+pub mod Sums
+pub mod Tile
+pub mod Walk

@@ -1,0 +1,49 @@
+-- Laws of where a fragment's boxes stand: the rules over those places are the rules over the `moof`.
+use mathlib.Core.Path.{_≡_, refl, sym, ap, _∙_}
+use mathlib.Core.List.{List}
+use Prim.Native.Nat.{ℕ, _+_}
+use Rattle.rules.specs.Kinds.{traf, tfhd, tfdt, trun}
+use Rattle.rules.specs.Rules.{_then_, must}
+use Rattle.rules.specs.Boxes.{body, kids, child, headOf}
+use Rattle.rules.specs.Header.{versioned, plain}
+use Rattle.rules.specs.Fragment.{trafIn, tfhdIn, tfdtIn, firstRun, runsIn, flagsOf, tfhdSize, rule14, rule15, rule15runs, startOf}
+use Rattle.rules.proofs.Then.{then-assoc}
+use Rattle.fragment.specs.Bodies.{timeAt}
+use Rattle.fragment.specs.Counts.{rule14moof, rule14traf, Stand}
+use Rattle.fragment.specs.Runs.{runsAt}
+use Rattle.fragment.specs.declared.counts.Moof.{Moof}
+
+-- rule 14 in `moof`, then in its `traf`
+pub rule14-is : (base : ℕ) (m : List ℕ) (t : ℕ) → t ≡ trafIn m → rule14 base m ≡ (rule14moof base m then rule14traf base m t)
+unfolding rule14 rule14moof rule14traf
+rule14-is base m t e = rw e (sym (then-assoc _ _ _))
+
+-- the start is the time of the fragment's `tfdt`
+pub start-is : (m : List ℕ) → timeAt m (tfdtIn m) ≡ startOf m
+unfolding timeAt startOf
+start-is m = refl
+
+module _ (m : List ℕ) (x : Moof) (st : Stand m x) where
+  pub tfhd-is : x .tfhd ≡ tfhdIn m
+  tfhd-is = st .tfhd .is ∙ ap (λ (t : ℕ). child m t tfhd) (st .traf .is)
+
+  pub tfdt-is : x .tfdt ≡ tfdtIn m
+  tfdt-is = st .tfdt .is ∙ ap (λ (t : ℕ). child m t tfdt) (st .traf .is)
+
+  pub run-is : x .run ≡ firstRun m
+  run-is = st .run .is ∙ ap (λ (t : ℕ). child m t trun) (st .traf .is)
+
+  -- the runs in the body of `traf`
+  pub runs-are : (b : List ℕ) (shift : ℕ) → b ≡ body m (x .traf) → shift ≡ x .traf + headOf m (x .traf) → runsAt b shift 0 ≡ runsIn m
+  unfolding runsAt runsIn kids
+  runs-are b shift e f = rw (e, f, st .traf .is)
+
+  pub rule15-is :
+      (base : ℕ) (rs : List ℕ) → rs ≡ runsIn m →
+      rule15 base m
+      ≡ (must (plain m (x .mfhd) 16) 15 (base + x .mfhd)
+      then must (plain m (x .tfhd) (tfhdSize (flagsOf m (x .tfhd)))) 15 (base + x .tfhd)
+      then must (versioned m (x .tfdt) 16 20) 15 (base + x .tfdt)
+      then rule15runs base m rs)
+  unfolding rule15
+  rule15-is base rs e = rw (st .mfhd .is, tfhd-is, tfdt-is, e)

@@ -1,0 +1,133 @@
+-- `fragment::bodies::read_bodies` meets its contract. Assumes nothing.
+use mathlib.Core.Path.{_≡_, refl, ap, _∙_}
+use mathlib.Core.Bool.{true}
+use Prim.Native.Nat.{ℕ, _+_}
+use native.Mathlib.Omega.{arith}
+use lib.ListN.{length}
+use borrow.Author.Needs.{needs}
+use denote.Ref.{now}
+use Rattle.rules.specs.Header.{plain, field}
+use Rattle.rules.specs.Fragment.{flagsOf, runsIn, rule16runs, samplesOf}
+use Rattle.rules.proofs.Then.{then-holds, then-breaks, must-true, must-false}
+use Rattle.fragment.specs.Bodies.{timeAt}
+use Rattle.fragment.specs.Runs.{runsAt}
+use Rattle.fragment.proofs.Counted.{body-low}
+use Rattle.fragment.proofs.Standing.{start-is, tfhd-is, tfdt-is, runs-are, rule15-is}
+use Rattle.fragment.proofs.bodies.read_bodies.Statement.{statement}
+use Rattle.fragment.proofs.bodies.read_bodies.Tie as tie
+
+returns : tie.Need-returns
+returns c =
+    let s = c .before .before .before .before in
+    let m = now (s .args .m) in
+    let wrong = rw (c .enum-told2 .given .1) at (c .before .before .read-mfhd .ensures) in
+    rule15-is m (s .args .x) (s .pre .1) (s .args .base) (runsIn m) refl ∙ then-breaks _ (must-false 15 _ wrong)
+
+-- the `mfhd` is right
+plain-mfhd : (c : tie.After-enum-told) → plain (now (c .before .before .before .before .args .m)) (c .before .before .before .before .args .x .mfhd) 16 ≡ true
+plain-mfhd c = rw (c .enum-told .given .1) at (c .before .before .read-mfhd .ensures)
+
+returns-2 : tie.Need-returns-2
+returns-2 c =
+    let e = c .before .before .before in
+    let s = e .before .before .before .before in
+    let m = now (s .args .m) in
+    let wrong = rw (c .enum-told3 .given .1) at (c .before .before .read-tfhd .ensures) in
+    rule15-is m (s .args .x) (s .pre .1) (s .args .base) (runsIn m) refl
+    ∙ then-holds _ (must-true 15 _ (plain-mfhd e))
+    ∙ then-breaks _ (must-false 15 _ wrong)
+
+returns-3 : tie.Need-returns-3
+returns-3 c =
+    let k = c .before .before .before in
+    let e = k .before .before .before .before in
+    let s = e .before .before .before .before in
+    let m = now (s .args .m) in
+    let h = rw (k .before .tfhd .given .1) at (k .before .before .before .read-tfhd .ensures) in
+    let wrong = rw (c .enum-told4 .given .1) at (c .before .before .read-tfdt .ensures) in
+    rule15-is m (s .args .x) (s .pre .1) (s .args .base) (runsIn m) refl
+    ∙ then-holds _ (must-true 15 _ (plain-mfhd e))
+    ∙ then-holds _ (must-true 15 _ (h .0))
+    ∙ then-breaks _ (must-false 15 _ wrong)
+
+survey-runs-requires : tie.Need-survey-runs-requires
+survey-runs-requires c κs =
+    let s = c .before .before .before .before .before .before .before .before .before .before .before .before .before .before .before in
+    omega (arith, s .pre .0, s .pre .1 .traf .low, c .before .head-of .ensures .1, ap length (c .before .before .body .ensures), body-low (now (s .args .m)) (s .args .x .traf))
+
+returns-4 : tie.Need-returns-4
+returns-4 c =
+    let v = c .before .before .before in
+    let t = v .before .before .before .before in
+    let k = t .before .before .before .before in
+    let e = k .before .before .before .before in
+    let s = e .before .before .before .before in
+    let m = now (s .args .m) in
+    let n = v .before .before .head-of in
+    let body = v .before .before .before .body in
+    let shift = s .args .x .traf + n .result in
+    let runs = runs-are m (s .args .x) (s .pre .1) (now (body .result)) shift (body .ensures) (ap (λ (y : ℕ). s .args .x .traf + y) (n .ensures .0)) in
+    let h = rw (k .before .tfhd .given .1) at (k .before .before .before .read-tfhd .ensures) in
+    let d = rw (t .before .tfdt .given .1) at (t .before .before .before .read-tfdt .ensures) in
+    rule15-is m (s .args .x) (s .pre .1) (s .args .base) (runsAt (now (body .result)) shift 0) runs
+    ∙ then-holds _ (must-true 15 _ (plain-mfhd e))
+    ∙ then-holds _ (must-true 15 _ (h .0))
+    ∙ then-holds _ (must-true 15 _ (d .0))
+    ∙ rw (c .before .all .given .1) at (v .survey-runs .ensures)
+
+returns-5 : tie.Need-returns-5
+returns-5 c =
+    let v = c .before .before .before in
+    let t = v .before .before .before .before in
+    let k = t .before .before .before .before in
+    let e = k .before .before .before .before in
+    let s = e .before .before .before .before in
+    let m = now (s .args .m) in
+    let n = v .before .before .head-of in
+    let body = v .before .before .before .body in
+    let shift = s .args .x .traf + n .result in
+    let runs = runs-are m (s .args .x) (s .pre .1) (now (body .result)) shift (body .ensures) (ap (λ (y : ℕ). s .args .x .traf + y) (n .ensures .0)) in
+    let h = rw (k .before .tfhd .given .1) at (k .before .before .before .read-tfhd .ensures) in
+    let d = rw (t .before .tfdt .given .1) at (t .before .before .before .read-tfdt .ensures) in
+    let r = rw (c .before .all2 .given .1) at (v .survey-runs .ensures) in (
+      rule15-is m (s .args .x) (s .pre .1) (s .args .base) (runsAt (now (body .result)) shift 0) runs
+          ∙ then-holds _ (must-true 15 _ (plain-mfhd e))
+          ∙ then-holds _ (must-true 15 _ (h .0))
+          ∙ then-holds _ (must-true 15 _ (d .0))
+          ∙ r .0,
+      record {
+        flags = h .1 ∙ ap (flagsOf m) (tfhd-is m (s .args .x) (s .pre .1));
+        id = h .2 ∙ ap (λ (y : ℕ). field m y 4) (tfhd-is m (s .args .x) (s .pre .1));
+        start = d .1 ∙ ap (timeAt m) (tfdt-is m (s .args .x) (s .pre .1)) ∙ start-is m;
+        clash = r .1 ∙ ap (rule16runs (s .args .base) m) runs;
+        samples = r .2 ∙ ap (samplesOf m) runs;
+      },
+    )
+
+pub read-bodies-spec : {M : Type 1} → statement M
+read-bodies-spec =
+    tie.close
+    (tie.spec
+    (λ c κs. search needs)
+    (λ c. search needs)
+    (λ c. search needs)
+    (λ c. search needs)
+    returns
+    (λ c κs. search needs)
+    (λ c. search needs)
+    (λ c. search needs)
+    (λ c. search needs)
+    returns-2
+    (λ c κs. search needs)
+    (λ c. search needs)
+    (λ c. search needs)
+    (λ c. search needs)
+    returns-3
+    (λ c κs. search needs)
+    (λ c κs. search needs)
+    (λ c. search needs)
+    survey-runs-requires
+    (λ c. search needs)
+    (λ c. search needs)
+    returns-4
+    returns-5)

@@ -1,0 +1,25 @@
+-- `fragment::layout::tfhd_size` meets its contract. Assumes nothing.
+use borrow.Author.Needs.{needs}
+use Rattle.rules.specs.Fragment.{tfhdSize}
+use Rattle.fragment.proofs.layout.tfhd_size.Statement.{statement}
+use Rattle.fragment.proofs.layout.tfhd_size.Tie as tie
+
+returns : tie.Need-returns
+unfolding tfhdSize
+returns c = search needs
+
+pub tfhd-size-spec : {M : Type 1} → statement M
+tfhd-size-spec =
+    tie.close
+    (tie.spec
+    (λ c κs. search needs)
+    (λ c κs. search needs)
+    (λ c. search needs)
+    (λ c κs. search needs)
+    (λ c. search needs)
+    (λ c κs. search needs)
+    (λ c. search needs)
+    (λ c κs. search needs)
+    (λ c. search needs)
+    (λ c. search needs)
+    returns)

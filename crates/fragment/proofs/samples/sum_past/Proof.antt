@@ -1,0 +1,57 @@
+-- `fragment::samples::sum_past` meets its contract. The sum is that of the samples passed, and the place a step on for each of them. Assumes nothing.
+use mathlib.Core.Path.{_≡_}
+use Prim.Native.Nat.{_+_, _*_, _-_, _≤_}
+use native.Mathlib.Omega.{arith}
+use borrow.Author.Needs.{needs}
+use denote.Ref.{now}
+use Rattle.fragment.specs.Samples.{every, Summed}
+use Rattle.fragment.proofs.Sums.{step-none, step-on, step-low, summed-none, summed-at, summed-end}
+use Rattle.fragment.proofs.samples.sum_past.Statement.{statement}
+use Rattle.fragment.proofs.samples.sum_past.Tie as tie
+
+abbrev Inv-loop : tie.InvT-loop
+Inv-loop m from step n sum₀ p₀ i₀ sum p i = (i ≤ n) × (p ≡ from + step * i) × Summed (every m from step) i sum
+
+abbrev μ-loop : tie.MeasureT-loop
+μ-loop m from step n sum₀ p₀ i₀ sum p i = n - i
+
+loop-holds : tie.Need-loop-holds Inv-loop μ-loop
+loop-holds c =
+    let a = c .before .args in
+    (omega arith, step-none (a .from) (a .step), summed-none (every (now (a .m)) (a .from) (a .step)))
+
+add-p : tie.Need-add-p Inv-loop μ-loop
+add-p c =
+    let s = c .before .before .before .before in
+    omega (arith, s .pre, step-low (s .pre) (c .before .before .loop .i) (c .before .before .loop .inv .0))
+
+loop-again : tie.Need-loop-again Inv-loop μ-loop
+loop-again c =
+    let a = c .before .before .before .before .args in
+    let l = c .before .before .loop in (
+      omega arith,
+      step-on (a .from) (a .step) (l .i) (l .p) (l .inv .1),
+      summed-at (now (a .m)) (a .from) (a .step) (l .i) (l .sum) (l .p) (c .be4 .result) (l .inv .2) (l .inv .1) (c .be4 .ensures) (omega (arith, c .be4 .ok)),
+    )
+
+returns : tie.Need-returns Inv-loop μ-loop
+returns c =
+    let a = c .before .before .before .args in
+    let l = c .before .loop in
+    summed-end (every (now (a .m)) (a .from) (a .step)) (l .i) (a .n) (l .sum) (l .inv .2) (l .inv .0) (c .loop-test .left)
+
+pub sum-past-spec : {M : Type 1} → statement M
+sum-past-spec =
+    tie.close
+    (tie.spec
+    Inv-loop
+    μ-loop
+    loop-holds
+    (λ c κs. search needs)
+    (λ c. search needs)
+    (λ c. omega arith)
+    add-p
+    (λ c. omega arith)
+    (λ c. omega arith)
+    loop-again
+    returns)

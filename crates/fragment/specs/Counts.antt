@@ -1,0 +1,66 @@
+-- Rule 14: what the counts of boxes in `moof` and in `traf` answer.
+use Prim.Native.Nat.{ℕ, _+_, _≤_}
+use mathlib.Core.Path.{_≡_}
+use mathlib.Core.List.{List}
+use lib.ListN.{length}
+use Rattle.rules.specs.Kinds.{mfhd, traf, tfhd, tfdt, trun}
+use Rattle.rules.specs.Rules.{_then_}
+use Rattle.rules.specs.Boxes.{kids, child, seen, firstOf}
+use Rattle.rules.specs.Header.{one, someOf}
+use Rattle.rules.specs.Fragment.{rule14}
+use Rattle.rules.specs.declared.Rule.{Rule}
+use Rattle.rules.specs.declared.Rule.the-variants.{Holds, Breaks}
+use Rattle.rules.specs.declared.Seen.{Seen}
+use Rattle.fragment.specs.declared.counts.Count.{Count}
+use Rattle.fragment.specs.declared.counts.Count.the-variants.{At, Refused}
+use Rattle.fragment.specs.declared.counts.InMoof.{InMoof}
+use Rattle.fragment.specs.declared.counts.InMoof.the-variants.{Both, Refused as moofRefused}
+use Rattle.fragment.specs.declared.counts.InTraf.{InTraf}
+use Rattle.fragment.specs.declared.counts.InTraf.the-variants.{Three, Refused as trafRefused}
+use Rattle.fragment.specs.declared.counts.Moof.{Moof}
+use Rattle.fragment.specs.declared.counts.Found.{Found}
+use Rattle.fragment.specs.declared.counts.Found.the-variants.{All, Refused as allRefused}
+
+-- the count is right, and the first box seen stands there; or the count is refused
+abbrev pub saysCount : Count → Rule → Seen → Type 0
+saysCount (At a) rule v = (rule ≡ Holds) × (a ≡ firstOf v)
+saysCount (Refused p) rule v = rule ≡ Breaks 14 0 p
+
+-- the place of a refusal
+abbrev pub saysPlace : Count → ℕ → Type 0
+saysPlace (At a) r = Unit {0}
+saysPlace (Refused p) r = r ≡ p
+
+-- a place is that of the first wanted box in the container at a place, and in the slice or just behind it
+pub record Inside (m : List ℕ) (at w place : ℕ) : Type 0 where
+  pub is : place ≡ child m at w
+  pub low : place ≤ at + 16 + length m
+
+-- 14 in `moof`, and in the `traf` at a place
+unfoldable pub rule14moof : ℕ → List ℕ → Rule
+rule14moof base m = one 14 base m 0 mfhd then one 14 base m 0 traf
+
+unfoldable pub rule14traf : ℕ → List ℕ → ℕ → Rule
+rule14traf base m t = one 14 base m t tfhd then one 14 base m t tfdt then someOf 14 (base + t) (seen trun (kids m t))
+
+abbrev pub saysInMoof : InMoof → ℕ → List ℕ → Type 0
+saysInMoof (Both a t) base m = (rule14moof base m ≡ Holds) × Inside m 0 mfhd a × Inside m 0 traf t
+saysInMoof (moofRefused p) base m = rule14moof base m ≡ Breaks 14 0 p
+
+abbrev pub saysInTraf : InTraf → ℕ → List ℕ → ℕ → Type 0
+saysInTraf (Three h t r) base m at =
+    (rule14traf base m at ≡ Holds) × Inside m at tfhd h × Inside m at tfdt t × Inside m at trun r
+saysInTraf (trafRefused p) base m at = rule14traf base m at ≡ Breaks 14 0 p
+
+-- where a fragment's boxes stand
+pub record Stand (m : List ℕ) (x : Moof) : Type 0 where
+  pub mfhd : Inside m 0 mfhd (x .mfhd)
+  pub traf : Inside m 0 traf (x .traf)
+  pub tfhd : Inside m (x .traf) tfhd (x .tfhd)
+  pub tfdt : Inside m (x .traf) tfdt (x .tfdt)
+  pub run : Inside m (x .traf) trun (x .run)
+
+-- 14, with where the boxes stand
+abbrev pub saysFound : Found → ℕ → List ℕ → Type 0
+saysFound (All x) base m = (rule14 base m ≡ Holds) × Stand m x
+saysFound (allRefused p) base m = rule14 base m ≡ Breaks 14 0 p

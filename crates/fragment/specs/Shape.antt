@@ -1,0 +1,40 @@
+-- Rules 14 to 18: what the check of a fragment's shape answers.
+use Prim.Native.Nat.{ℕ, _+_, _≤_}
+use mathlib.Core.Path.{_≡_}
+use mathlib.Core.List.{List}
+use mathlib.Core.Bool.{not, _&&_}
+use lib.Dec.{leb, eqb}
+use Rattle.numbers.specs.Numbers.{has}
+use Rattle.rules.specs.Limits.{sampleLimit}
+use Rattle.rules.specs.Rules.{_then_, must}
+use Rattle.rules.specs.Fragment.{runsIn, rule15, rule16, rule17, rule18, samplesOf, startOf}
+use Rattle.rules.specs.declared.Rule.{Rule}
+use Rattle.rules.specs.declared.Rule.the-variants.{Holds, Breaks}
+use Rattle.fragment.specs.Told.{ruleOf}
+use Rattle.fragment.specs.Counts.{Stand}
+use Rattle.fragment.specs.declared.bodies.Body.{Body}
+use Rattle.fragment.specs.declared.shape.Shaped.{Shaped}
+use Rattle.fragment.specs.declared.shape.Shape.{Shape}
+use Rattle.fragment.specs.declared.shape.Shape.the-variants.{Good, Refused}
+
+-- 16 to 18, by what the bodies say, with the places of `tfhd` and `traf`
+unfoldable pub settled : ℕ → ℕ → ℕ → ℕ → Body → Rule
+settled base id tfhd traf k =
+    (must (not (has (k .flags) 0x1) && not (has (k .flags) 0x10000) && has (k .flags) 0x20000) 16 (base + tfhd) then ruleOf (k .clash))
+    then must (eqb (k .id) id) 17 (base + tfhd)
+    then must (leb 1 (k .samples) && leb (k .samples) sampleLimit) 18 (base + traf)
+
+-- 15 to 18
+unfoldable pub rules15to18 : ℕ → List ℕ → ℕ → Rule
+rules15to18 base m id = rule15 base m then rule16 base m then rule17 base m id then rule18 base m
+
+-- a fragment of good shape: where its boxes stand, its start, and that its samples are few
+pub record Good14to18 (m : List ℕ) (s : Shaped) : Type 0 where
+  pub stand : Stand m (s .boxes)
+  pub start : s .start ≡ startOf m
+  pub few : samplesOf m (runsIn m) ≤ sampleLimit
+
+-- the rule holds, with what is known then; or it breaks
+abbrev pub saysShape : Shape → Rule → List ℕ → Type 0
+saysShape (Good s) rule m = (rule ≡ Holds) × Good14to18 m s
+saysShape (Refused n p) rule m = rule ≡ Breaks n 0 p

@@ -1,0 +1,188 @@
+// Rule 14: how many boxes of each type stand in `moof` and in `traf`, and where.
+ghost use mathlib.Core.Path.{_≡_};
+ghost use Prim.Native.Nat.{_+_, _≤_};
+ghost use lib.ListN.{length};
+ghost use Rattle.rules.specs.Header.{oneOf, someOf};
+ghost use Rattle.rules.specs.Boxes.{firstOf};
+ghost use Rattle.boxes.specs.Siblings.{secondOf};
+ghost use Rattle.fragment.specs.Counts.{saysCount, saysPlace, saysInMoof, saysInTraf, saysFound, Inside};
+use boxes::kinds::MFHD;
+use boxes::kinds::TFDT;
+use boxes::kinds::TFHD;
+use boxes::kinds::TRAF;
+use boxes::kinds::TRUN;
+use rules::Seen;
+
+// A box that is there as often as it may be, or the place of the refusal.
+pub enum Count {
+    At(usize),
+    Refused(u64),
+}
+
+// The boxes of `moof`.
+pub enum InMoof {
+    Both { mfhd: usize, traf: usize },
+    Refused(u64),
+}
+
+// The boxes of `traf`.
+pub enum InTraf {
+    Three {
+        tfhd: usize,
+        tfdt: usize,
+        run: usize,
+    },
+    Refused(u64),
+}
+
+// Where the boxes of a fragment stand in its `moof`; of the runs the first.
+pub struct Moof {
+    pub mfhd: usize,
+    pub traf: usize,
+    pub tfhd: usize,
+    pub tfdt: usize,
+    pub run: usize,
+}
+
+// The boxes of a fragment, or the place of rule 14's refusal.
+pub enum Found {
+    All(Moof),
+    Refused(u64),
+}
+
+// One box: the container's place if missing, the first extra box's if too many.
+fn only(v: Seen, container: u64, inner: u64) -> Count
+    requires { ⌜ (secondOf v ≤ 4294967296) × (inner ≤ 17179869184) ⌝ }
+    ensures { λ r. ⌜ saysCount r (oneOf 14 container inner v) v ⌝ }
+{
+    match v {
+        Seen::Never => Count::Refused(container),
+        Seen::Once(a) => Count::At(a),
+        Seen::Twice(_, b) => Count::Refused(inner + b as u64),
+    }
+}
+
+// One box or more: the first.
+fn first_seen(v: Seen, container: u64) -> Count
+    ensures { λ r. ⌜ saysCount r (someOf 14 container v) v ⌝ }
+{
+    match v {
+        Seen::Never => Count::Refused(container),
+        Seen::Once(a) => Count::At(a),
+        Seen::Twice(a, _) => Count::At(a),
+    }
+}
+
+// The place of a refusal.
+fn place_of(c: Count) -> u64
+    ensures { λ r. ⌜ saysPlace c r ⌝ }
+{
+    match c {
+        Count::At(_) => 0,
+        Count::Refused(p) => p,
+    }
+}
+
+// The counts in `moof`: one `mfhd`, one `traf`.
+fn in_moof(m: &[u8], base: u64) -> InMoof
+    requires { ⌜ (length (now m) ≤ 4294967296) × (base ≤ 4294967296) ⌝ }
+    ensures { λ r. ⌜ saysInMoof r base (now (m .entry)) ⌝ }
+{
+    let b = fields::body(m, 0);
+    let seen = boxes::tally(b, MFHD, TRAF, TRAF, TRAF, TRAF);
+    let head = fields::head_of(m, 0);
+    let inner = base + head as u64;
+    let mfhds = seen.a;
+    let trafs = seen.b;
+    let x = only(mfhds, base, inner);
+    let Count::At(mfhd) = x else {
+        return InMoof::Refused(place_of(x));
+    };
+    let y = only(trafs, base, inner);
+    let Count::At(traf) = y else {
+        return InMoof::Refused(place_of(y));
+    };
+    InMoof::Both {
+        mfhd: head + mfhd,
+        traf: head + traf,
+    }
+}
+
+// The counts in the `traf` at a place: one `tfhd`, one `tfdt`, one or more `trun`.
+fn in_traf(m: &[u8], base: u64, traf: usize) -> InTraf
+    requires { ⌜ (length (now m) ≤ 4294967296) × (base ≤ 4294967296) × (traf ≤ 4294967312) ⌝ }
+    ensures { λ r. ⌜ saysInTraf r base (now (m .entry)) traf ⌝ }
+{
+    let b = fields::body(m, traf);
+    let seen = boxes::tally(b, TFHD, TFDT, TRUN, TRUN, TRUN);
+    let from = traf + fields::head_of(m, traf);
+    let container = base + traf as u64;
+    let inner = base + from as u64;
+    let tfhds = seen.a;
+    let tfdts = seen.b;
+    let truns = seen.c;
+    let x = only(tfhds, container, inner);
+    let Count::At(tfhd) = x else {
+        return InTraf::Refused(place_of(x));
+    };
+    let y = only(tfdts, container, inner);
+    let Count::At(tfdt) = y else {
+        return InTraf::Refused(place_of(y));
+    };
+    let z = first_seen(truns, container);
+    let Count::At(run) = z else {
+        return InTraf::Refused(place_of(z));
+    };
+    InTraf::Three {
+        tfhd: from + tfhd,
+        tfdt: from + tfdt,
+        run: from + run,
+    }
+}
+
+// Rule 14: the boxes of a fragment.
+pub fn find_boxes(m: &[u8], base: u64) -> Found
+    requires { ⌜ (length (now m) ≤ 4294967296) × (base ≤ 4294967296) ⌝ }
+    ensures { λ r. ⌜ saysFound r base (now (m .entry)) ⌝ }
+{
+    let outer = in_moof(m, base);
+    match outer {
+        InMoof::Refused(p) => Found::Refused(p),
+        InMoof::Both { mfhd, traf } => {
+            let inner = in_traf(m, base, traf);
+            match inner {
+                InTraf::Refused(p) => Found::Refused(p),
+                InTraf::Three { tfhd, tfdt, run } => Found::All(Moof {
+                    mfhd,
+                    traf,
+                    tfhd,
+                    tfdt,
+                    run,
+                }),
+            }
+        }
+    }
+}
+
+// The first place seen, 0 where there is none.
+fn first_place(v: Seen) -> usize
+    ensures { λ r. ⌜ r ≡ firstOf v ⌝ }
+{
+    match v {
+        Seen::Never => 0,
+        Seen::Once(a) => a,
+        Seen::Twice(a, _) => a,
+    }
+}
+
+// The place of the first box of a type in the container at a place.
+pub fn child_of(m: &[u8], at: usize, kind: u32) -> usize
+    requires { ⌜ at ≤ length (now m) + 16 ⌝ }
+    ensures { λ r. ⌜ Inside (now (m .entry)) at kind r ⌝ }
+{
+    let b = fields::body(m, at);
+    let seen = boxes::tally(b, kind, kind, kind, kind, kind);
+    let v = seen.a;
+    let from = at + fields::head_of(m, at);
+    from + first_place(v)
+}

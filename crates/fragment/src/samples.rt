@@ -1,0 +1,161 @@
+// The samples of a run: their durations and sizes in all.
+ghost use mathlib.Core.Path.{_≡_};
+ghost use Prim.Native.Nat.{_+_, _*_, _≤_};
+ghost use lib.ListN.{length};
+ghost use Rattle.numbers.specs.Numbers.{be4};
+ghost use Rattle.rules.specs.Fragment.{stride, countOf, durationOf, bytesOf};
+ghost use Rattle.fragment.specs.Samples.{every, ownTicks, ownBytes, Spaced, Summed};
+use crate::layout;
+use rules::Defaults;
+
+// Durations and sizes in all.
+pub struct Sums {
+    pub ticks: u64,
+    pub bytes: u64,
+}
+
+// Four bytes as a number.
+fn four(a: u8, b: u8, c: u8, d: u8) -> u64
+    ensures { λ r. ⌜ (r ≡ a * 16777216 + b * 65536 + c * 256 + d) × (r ≤ 4294967295) ⌝ }
+{
+    a as u64 * 16777216 + b as u64 * 65536 + c as u64 * 256 + d as u64
+}
+
+// The number in the four bytes at a place inside the slice.
+fn near(m: &[u8], p: usize) -> u64
+    requires { ⌜ p + 4 ≤ length (now m) ⌝ }
+    ensures { λ r. ⌜ (r ≡ be4 (now (m .entry)) p) × (r ≤ 4294967295) ⌝ }
+{
+    four(m[p], m[p + 1], m[p + 2], m[p + 3])
+}
+
+// The sum of n numbers, a step apart from a place, all inside the slice.
+fn sum_inside(m: &[u8], from: usize, step: usize, n: usize) -> u64
+    requires { ⌜ Spaced from step n ⌝ }
+    requires { ⌜ (4 ≤ step) × (from + step * n ≤ length (now m)) ⌝ }
+    ensures { λ r. ⌜ Summed (every (now (m .entry)) from step) n r ⌝ }
+{
+    let mut sum: u64 = 0;
+    let mut p = from;
+    let mut i = 0;
+    while i < n {
+        sum += near(m, p);
+        p += step;
+        i += 1;
+    }
+    sum
+}
+
+// The sum of n numbers, a step apart from a place, some of which may stand past the end.
+fn sum_past(m: &[u8], from: usize, step: usize, n: usize) -> u64
+    requires { ⌜ Spaced from step n ⌝ }
+    ensures { λ r. ⌜ Summed (every (now (m .entry)) from step) n r ⌝ }
+{
+    let mut sum: u64 = 0;
+    let mut p = from;
+    let mut i = 0;
+    while i < n {
+        sum += numbers::be4(m, p) as u64;
+        p += step;
+        i += 1;
+    }
+    sum
+}
+
+// The two sums of n pairs of numbers, a step apart from a place, all inside the slice.
+fn pairs_inside(m: &[u8], from: usize, step: usize, n: usize) -> Sums
+    requires { ⌜ Spaced from step n ⌝ }
+    requires { ⌜ (8 ≤ step) × (from + step * n ≤ length (now m)) ⌝ }
+    ensures { λ r. ⌜ Summed (every (now (m .entry)) from step) n (r .ticks) ⌝ }
+    ensures { λ r. ⌜ Summed (every (now (m .entry)) (from + 4) step) n (r .bytes) ⌝ }
+{
+    let mut ticks: u64 = 0;
+    let mut bytes: u64 = 0;
+    let mut p = from;
+    let mut i = 0;
+    while i < n {
+        ticks += near(m, p);
+        bytes += near(m, p + 4);
+        p += step;
+        i += 1;
+    }
+    Sums { ticks, bytes }
+}
+
+// The sum of n numbers, a step apart from a place.
+pub fn sum(m: &[u8], from: usize, step: usize, n: usize) -> u64
+    requires { ⌜ Spaced from step n ⌝ }
+    requires { ⌜ 4 ≤ step ⌝ }
+    ensures { λ r. ⌜ Summed (every (now (m .entry)) from step) n r ⌝ }
+{
+    if from + step * n <= m.len() {
+        sum_inside(m, from, step, n)
+    } else {
+        sum_past(m, from, step, n)
+    }
+}
+
+// The two sums of n pairs of numbers, a step apart from a place.
+pub fn sum_pairs(m: &[u8], from: usize, step: usize, n: usize) -> Sums
+    requires { ⌜ Spaced (from + 4) step n ⌝ }
+    requires { ⌜ 8 ≤ step ⌝ }
+    ensures { λ r. ⌜ Summed (every (now (m .entry)) from step) n (r .ticks) ⌝ }
+    ensures { λ r. ⌜ Summed (every (now (m .entry)) (from + 4) step) n (r .bytes) ⌝ }
+{
+    if from + step * n <= m.len() {
+        pairs_inside(m, from, step, n)
+    } else {
+        Sums {
+            ticks: sum_past(m, from, step, n),
+            bytes: sum_past(m, from + 4, step, n),
+        }
+    }
+}
+
+// A value that n samples share, n times.
+fn times(n: usize, x: u32) -> u64
+    requires { ⌜ n ≤ 65536 ⌝ }
+    ensures { λ r. ⌜ Summed (λ i. x) n r ⌝ }
+{
+    n as u64 * x as u64
+}
+
+// The durations and the sizes of n samples whose fields stand a step apart from a place.
+fn sums_of(m: &[u8], from: usize, step: usize, n: usize, flags: u32, d: Defaults) -> Sums
+    requires { ⌜ Spaced (from + 4) step n ⌝ }
+    requires { ⌜ step ≡ stride flags ⌝ }
+    ensures { λ r. ⌜ Summed (ownTicks (now (m .entry)) from step flags (d .duration)) n (r .ticks) ⌝ }
+    ensures { λ r. ⌜ Summed (ownBytes (now (m .entry)) from step flags (d .size)) n (r .bytes) ⌝ }
+{
+    if numbers::has(flags, 0x100) {
+        if numbers::has(flags, 0x200) {
+            return sum_pairs(m, from, step, n);
+        }
+        return Sums {
+            ticks: sum(m, from, step, n),
+            bytes: times(n, d.size),
+        };
+    }
+    if numbers::has(flags, 0x200) {
+        return Sums {
+            ticks: times(n, d.duration),
+            bytes: sum(m, from, step, n),
+        };
+    }
+    Sums {
+        ticks: times(n, d.duration),
+        bytes: times(n, d.size),
+    }
+}
+
+// The durations and the sizes of the run at a place.
+pub fn run_sums(m: &[u8], at: usize, d: Defaults) -> Sums
+    requires { ⌜ (at ≤ 17179869184) × (countOf (now m) at ≤ 65536) ⌝ }
+    ensures { λ r. ⌜ Summed (durationOf (now (m .entry)) d at) (countOf (now (m .entry)) at) (r .ticks) ⌝ }
+    ensures { λ r. ⌜ Summed (bytesOf (now (m .entry)) d at) (countOf (now (m .entry)) at) (r .bytes) ⌝ }
+{
+    let flags = fields::flags_of(m, at);
+    let n = fields::field(m, at, 4) as usize;
+    let from = at + fields::head_of(m, at) + layout::run_head(flags);
+    sums_of(m, from, layout::stride(flags), n, flags, d)
+}

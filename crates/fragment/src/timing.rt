@@ -1,0 +1,105 @@
+// Rules 19 to 22: the fragment's timing.
+ghost use mathlib.Core.Path.{_≡_};
+ghost use mathlib.Core.Bool.{not, _||_};
+ghost use Prim.Native.Nat.{_≤_};
+ghost use lib.ListN.{length};
+ghost use lib.Dec.{eqb};
+ghost use Rattle.numbers.specs.Numbers.{has};
+ghost use Rattle.rules.specs.Fragment.{timing};
+ghost use Rattle.fragment.specs.Shape.{Good14to18};
+ghost use Rattle.fragment.specs.Timing.{saysEnd, saysFragment};
+use crate::Facts;
+use crate::Fragment;
+use crate::layout;
+use crate::runs;
+use crate::shape::Shaped;
+use crate::told;
+use crate::told::Told;
+use rules::Defaults;
+
+// The fragment's end, or that its duration is 0 or its end over 2^63 - 1.
+pub enum End {
+    At(u64),
+    Wrong,
+}
+
+// Rule 19: the first fragment, or one that starts at the previous end.
+fn follows(k: u64, start: u64, prev: u64) -> bool
+    ensures { λ r. ⌜ r ≡ (eqb k 0 || eqb start prev) ⌝ }
+{
+    if k == 0 {
+        return true;
+    }
+    start == prev
+}
+
+// Rule 20: the end, by a start and a duration.
+fn end_at(start: u64, ticks: u64) -> End
+    requires { ⌜ ticks ≤ 281474976645120 ⌝ }
+    ensures { λ r. ⌜ saysEnd r start ticks ⌝ }
+{
+    if ticks < 1 {
+        return End::Wrong;
+    }
+    if 9223372036854775807 - ticks < start {
+        return End::Wrong;
+    }
+    End::At(start + ticks)
+}
+
+// Rule 21: not the non-sync bit.
+fn is_sync(flags: u32) -> bool
+    ensures { λ r. ⌜ r ≡ not (has flags 0x10000) ⌝ }
+{
+    let other = numbers::has(flags, 0x10000);
+    !other
+}
+
+// Rules 19 to 22 of a fragment of good shape.
+pub fn time(
+    m: &[u8],
+    base: u64,
+    head: u64,
+    payload: u64,
+    d: Defaults,
+    k: u64,
+    prev: u64,
+    s: Shaped,
+) -> Fragment
+    requires { ⌜ (length (now m) ≤ 4294967296) × (base ≤ 4294967296) × (head ≤ 16) ⌝ }
+    requires { ⌜ Good14to18 (now m) s ⌝ }
+    ensures { λ r. ⌜ saysFragment r (timing base (now (m .entry)) d head payload k prev) (now (m .entry)) d ⌝ }
+{
+    let x = s.boxes;
+    let start = s.start;
+    if !follows(k, start, prev) {
+        return Fragment::Refused {
+            number: 19,
+            place: base + x.tfdt as u64,
+        };
+    }
+    let own = layout::defaults_at(m, x.tfhd, d);
+    let b = fields::body(m, x.traf);
+    let shift = x.traf + fields::head_of(m, x.traf);
+    let data = m.len() as u64;
+    let all = runs::tile_runs(m, b, shift, base, own, data + head);
+    let last = end_at(start, all.ticks);
+    let End::At(end) = last else {
+        return Fragment::Refused {
+            number: 20,
+            place: base + x.run as u64,
+        };
+    };
+    if !is_sync(runs::first_flags(m, b, shift, own)) {
+        return Fragment::Refused {
+            number: 21,
+            place: base + x.run as u64,
+        };
+    }
+    let offsets = all.tiled;
+    let tiled = told::first_of(offsets, told::must(all.bytes == payload, 22, base + data));
+    match tiled {
+        Told::Breaks { number, place } => Fragment::Refused { number, place },
+        Told::Holds => Fragment::Good(Facts { start, end }),
+    }
+}

@@ -1,0 +1,115 @@
+-- Demand 3, first half: every switching plan of an accepted set plays, and what that means fragment by fragment.
+use mathlib.Core.Path.{_≡_, refl, sym, ap₂, subst, _∙_}
+use mathlib.Core.List.{List, [], _∷_}
+use Prim.Native.Nat.{ℕ, _+_, _≤_, _<_}
+use native.Mathlib.Omega.{arith}
+use lib.ListN.{length, take, drop}
+use lib.Dec.{eqb}
+use borrow.Author.Tests.{eqb-true}
+use Rattle.rules.specs.Rules.{_then_, must, ofTrack}
+use Rattle.rules.specs.Track.{rule1, ruling, fragments, fragmentCount, timescale, boundaries}
+use Rattle.rules.specs.Bundle.{rule24, tracks}
+use Rattle.rules.specs.Set.{rule25, rule26, rule27, firstOr, rule28From, rule28, agrees, rulings, agree, track0, setRuling, bundleRuling}
+use Rattle.rules.specs.Player.{Played, stuck, passed, play}
+use Rattle.rules.specs.declared.Rule.the-variants.{Holds}
+use Rattle.rules.proofs.Laws.{All, all-at, all-map, below}
+use Rattle.rules.proofs.Then.{then-first, then-second, must-holds, of-track}
+use Rattle.rules.proofs.Boundaries.{boundaries-length, as-many}
+use Rattle.rules.proofs.Plays.{Chooses, alike-plays}
+
+-- a plan: one to all fragments, and each choice names a track of the set
+abbrev pub Plan : List (List ℕ) → List ℕ → Type 0
+Plan ss plan = (1 ≤ length plan) × (length plan ≤ fragmentCount (track0 ss)) × All (λ i. i < length ss) plan
+
+-- an accepted track that is like another: the same timescale, as many fragments, the same boundaries
+abbrev pub Alike : List ℕ → List ℕ → Type 0
+Alike s₀ s =
+    (ruling s ≡ Holds) × (timescale s ≡ timescale s₀) × (fragmentCount s ≡ fragmentCount s₀) × (boundaries s ≡ boundaries s₀)
+
+-- rule 28 over lists of one length: they are one list
+same-ticks : (last : ℕ) (xs ys ps : List ℕ) → length ys ≡ length xs → rule28From last xs ys ps ≡ Holds → ys ≡ xs
+unfolding rule28From
+same-ticks last [] [] ps l h = refl
+same-ticks last [] (y ∷ ys) ps l h = let z : ⊥ = omega (arith, l) in absurd z
+same-ticks last (x ∷ xs) [] ps l h = let z : ⊥ = omega (arith, l) in absurd z
+same-ticks last (x ∷ xs) (y ∷ ys) ps l h =
+    let first = must (eqb y x) 28 (firstOr last ps) in
+    let rest = rule28From (firstOr last ps) xs ys (drop 1 ps) in
+    ap₂ {C = List ℕ} (λ (a : ℕ) (bs : List ℕ). a ∷ bs)
+    (eqb-true y x (must-holds (eqb y x) 28 (firstOr last ps) (then-first first rest h)))
+    (same-ticks (firstOr last ps) xs ys (drop 1 ps) (omega (arith, l)) (then-second first rest h))
+
+-- 25 to 28 make tracks alike
+agrees-alike : (s₀ s : List ℕ) → ruling s ≡ Holds → agrees s₀ s ≡ Holds → Alike s₀ s
+unfolding agrees rule26 rule27 rule28
+agrees-alike s₀ s r h =
+    let h₂ = then-second (rule25 s₀ s) (rule26 s₀ s then rule27 s₀ s then rule28 s₀ s) h in
+    let h₃ = then-second (rule26 s₀ s) (rule27 s₀ s then rule28 s₀ s) h₂ in
+    let n = eqb-true (fragmentCount s) (fragmentCount s₀) (must-holds _ _ _ (then-first (rule27 s₀ s) (rule28 s₀ s) h₃)) in (
+      r,
+      eqb-true (timescale s) (timescale s₀) (must-holds _ _ _ (then-first (rule26 s₀ s) (rule27 s₀ s then rule28 s₀ s) h₂)),
+      n,
+      same-ticks 0 (boundaries s₀) (boundaries s) (fragments s) (as-many s s₀ n) (then-second (rule27 s₀ s) (rule28 s₀ s) h₃),
+    )
+
+-- tracks accepted one by one
+pub each-ruling : (k : ℕ) (ss : List (List ℕ)) → rulings k ss ≡ Holds → All (λ s. ruling s ≡ Holds) ss
+unfolding rulings
+each-ruling k [] h = tt
+each-ruling k (s ∷ ss) h = (
+  of-track k (ruling s) (then-first (ofTrack k (ruling s)) (rulings (k + 1) ss) h),
+  each-ruling (k + 1) ss (then-second (ofTrack k (ruling s)) (rulings (k + 1) ss) h),
+)
+
+-- tracks accepted, each beside track 0
+each-agrees : (s₀ : List ℕ) (k : ℕ) (ss : List (List ℕ)) → All (λ s. ruling s ≡ Holds) ss → agree s₀ k ss ≡ Holds → All (Alike s₀) ss
+unfolding agree
+each-agrees s₀ k [] r h = tt
+each-agrees s₀ k (s ∷ ss) r h = (
+  agrees-alike s₀ s (r .0) (of-track k (agrees s₀ s) (then-first (ofTrack k (agrees s₀ s)) (agree s₀ (k + 1) ss) h)),
+  each-agrees s₀ (k + 1) ss (r .1) (then-second (ofTrack k (agrees s₀ s)) (agree s₀ (k + 1) ss) h),
+)
+
+-- every track of an accepted set is like its track 0
+pub all-alike : (ss : List (List ℕ)) → setRuling ss ≡ Holds → All (Alike (track0 ss)) ss
+unfolding setRuling
+all-alike [] h = tt
+all-alike (s ∷ ss) h =
+    let r = each-ruling 0 (s ∷ ss) (then-first (rulings 0 (s ∷ ss)) (agree s 1 ss) h) in
+    ((r .0, refl, refl, refl), each-agrees s 1 ss (r .1) (then-second (rulings 0 (s ∷ ss)) (agree s 1 ss) h))
+
+-- a choice below the number of tracks names a track like track 0
+chooses : (ss : List (List ℕ)) → setRuling ss ≡ Holds → (i : ℕ) → i < length ss
+    → Chooses ss (timescale (track0 ss)) (boundaries (track0 ss)) i
+chooses ss h i l =
+    let n = below ss i l in
+    let a = all-at (Alike (track0 ss)) ss i (n .0) (all-alike ss h) (n .1) in
+    (n .0, n .1, a .0, a .1, a .3)
+
+-- the first half: every plan of an accepted set plays, and passes the first (length of plan + 1) boundaries of track 0
+pub first-half : (ss : List (List ℕ)) (plan : List ℕ) → setRuling ss ≡ Holds → Plan ss plan
+    → play ss plan ≡ passed (take (length plan + 1) (boundaries (track0 ss)))
+first-half ss plan h p =
+    alike-plays ss (timescale (track0 ss)) (boundaries (track0 ss)) plan (p .0)
+    (omega (arith, p .0, p .1, boundaries-length (track0 ss) (omega (arith, p .0, p .1))))
+    (all-map (λ i. i < length ss) (Chooses ss (timescale (track0 ss)) (boundaries (track0 ss))) plan (chooses ss h) (p .2))
+
+-- a bundle that is accepted holds an accepted set
+pub accepted-set : (b : List ℕ) → bundleRuling b ≡ Holds → setRuling (tracks b) ≡ Holds
+unfolding bundleRuling
+accepted-set b h =
+    then-second (rule24 b) (setRuling (tracks b)) (then-second (rule1 (length b)) (rule24 b then setRuling (tracks b)) h)
+
+-- the first half for a bundle
+pub first-half-bundle : (b plan : List ℕ) → bundleRuling b ≡ Holds → Plan (tracks b) plan
+    → play (tracks b) plan ≡ passed (take (length plan + 1) (boundaries (track0 (tracks b))))
+first-half-bundle b plan h p = first-half (tracks b) plan (accepted-set b h) p
+
+-- a play that passes ticks isn't stuck
+abbrev pub Passes : Played → Type 0
+Passes stuck = ⊥
+Passes (passed ts) = Unit {0}
+
+-- never stuck: no plan of an accepted set is
+pub never-stuck : (ss : List (List ℕ)) (plan : List ℕ) → setRuling ss ≡ Holds → Plan ss plan → play ss plan ≡ stuck → ⊥
+never-stuck ss plan h p q = subst Passes (sym (first-half ss plan h p) ∙ q) tt

@@ -1,0 +1,200 @@
+-- The player's law: any plan whose named tracks fit one list of boundaries runs, and passes that list. And what it depends on.
+use mathlib.Core.Path.{_≡_, refl, sym, ap, ap₂, _∙_}
+use mathlib.Core.Bool.{true}
+use mathlib.Core.Option.{Option, none, some}
+use mathlib.Core.List.{List, [], _∷_, map}
+use Prim.Native.Nat.{ℕ, zero, suc, _+_, _≤_, _<_}
+use native.Mathlib.Nat.{not-suc-le-zero}
+use native.Mathlib.Numerals.{add-one}
+use native.Mathlib.Omega.{arith}
+use lib.ListN.{length, take, drop, getElem?, replicate, length-replicate, length-map}
+use lib.Seq.{length-take-le, take-length}
+use borrow.Author.Tests.{eq-eqb}
+use Rattle.rules.specs.Track.{ruling, headerOf, fragments, fragmentCount, timescale, boundaries}
+use Rattle.rules.specs.Player.{Piece, Stream, State, pieceAt, rules1to18, good, streamOf, fits, begin, goes, after, onOption, stepOn, Played, stuck, passed, tick, playFrom, firstStart, playStreams, play}
+use Rattle.rules.specs.declared.Rule.the-variants.{Holds}
+use Rattle.rules.proofs.Laws.{All, all-map, beyond, drop-first, drop-rest, map-at, map-none}
+use Rattle.rules.proofs.Boundaries.{Tiles, Tiled, tiles-fewer, sound, tiled, boundaries-length}
+use Rattle.rules.proofs.Stuck.{step-goes, play-step, play-stuck}
+
+-- a track that fits: rules 1 to 18 hold, this timescale, and from the k-th on fragments from a start over these ends
+abbrev pub Fits : ℕ → ℕ → ℕ → List ℕ → Stream → Type 0
+Fits scale k a bs t = (t .sound ≡ true) × (t .scale ≡ scale) × Tiles (drop k (t .pieces)) a bs
+
+-- the k-th fragment of a track that fits, and the track after it
+next-piece : (ps : List Piece) (k a b : ℕ) (bs : List ℕ) → Tiles (drop k ps) a (b ∷ bs)
+    → (p : Piece) × (getElem? ps k ≡ some p) × (p .from ≡ a) × (p .to ≡ b) × (p .sync ≡ true) × (p .fed ≡ true) × Tiles (drop (k + 1) ps) b bs
+next-piece ps k a b bs h = go (drop k ps) refl h
+  where
+    go : (qs : List Piece) → drop k ps ≡ qs → Tiles qs a (b ∷ bs)
+        → (p : Piece) × (getElem? ps k ≡ some p) × (p .from ≡ a) × (p .to ≡ b) × (p .sync ≡ true) × (p .fed ≡ true) × Tiles (drop (k + 1) ps) b bs
+    go [] e y = absurd y
+    go (q ∷ qs) e y =
+        (q, drop-first ps k q qs e, y .0, y .1, y .2, y .3, rw (add-one k, drop-rest ps k q qs e) (y .4))
+
+-- a choice that names a track that fits
+abbrev Named : List Stream → ℕ → ℕ → ℕ → List ℕ → ℕ → Type 0
+Named ts scale k a bs i = (t : Stream) × (getElem? ts i ≡ some t) × Fits scale k a bs t
+
+-- the same choice one fragment later
+named-later : (ts : List Stream) (scale k a b : ℕ) (bs : List ℕ) (i : ℕ) → Named ts scale k a (b ∷ bs) i → Named ts scale (k + 1) b bs i
+named-later ts scale k a b bs i n =
+    (n .0, n .1, (n .2 .0, n .2 .1, next-piece (n .0 .pieces) k a b bs (n .2 .2) .6))
+
+-- a step on a track that fits goes through
+fits-goes : (g : State) (t : Stream) (p : Piece) (scale a : ℕ) → t .sound ≡ true → t .scale ≡ scale → p .from ≡ a → p .sync ≡ true
+    → p .fed ≡ true → fits (g .scale) scale ≡ true → fits (g .clock) a ≡ true → goes g t p ≡ true
+unfolding goes
+fits-goes g t p scale a h₁ h₂ h₃ h₄ h₅ h₆ h₇ = rw (h₁, h₂, h₃, h₄, h₅, h₆, h₇)
+
+-- a set number fits itself
+same : (x : ℕ) → fits (some x) x ≡ true
+unfolding fits
+same x = eq-eqb x x refl
+
+-- from a state on: a plan whose named tracks fit the ends runs, and passes them
+runs : (ts : List Stream) (scale : ℕ) (plan bs : List ℕ) (a : ℕ) (g : State) → length plan ≡ length bs
+    → fits (g .scale) scale ≡ true → fits (g .clock) a ≡ true → All (Named ts scale (g .number) a bs) plan
+    → playFrom ts g plan ≡ passed bs
+unfolding playFrom after fits
+runs ts scale [] [] a g l f c n = refl
+runs ts scale [] (b ∷ bs) a g l f c n = let z : ⊥ = omega (arith, l) in absurd z
+runs ts scale (i ∷ plan) [] a g l f c n = let z : ⊥ = omega (arith, l) in absurd z
+runs ts scale (i ∷ plan) (b ∷ bs) a g l f c n =
+    let t = n .0 .0 in
+    let y = next-piece (t .pieces) (g .number) a b bs (n .0 .2 .2) in
+    let p = y .0 in
+    let w = fits-goes g t p scale a (n .0 .2 .0) (n .0 .2 .1) (y .2) (y .4) (y .5) f c in
+    let r : playFrom ts (after g t p) plan ≡ passed bs =
+    runs ts scale plan bs b (after g t p) (omega (arith, l)) (rw (n .0 .2 .1) (same scale)) (rw (y .3) (same b))
+    (all-map (Named ts scale (g .number) a (b ∷ bs)) (Named ts scale (g .number + 1) b bs) plan
+    (named-later ts scale (g .number) a b bs) (n .1)) in
+    play-step ts g i plan t p (n .0 .1) (step-goes g t p (y .1) w)
+    ∙ ap (tick (p .to)) r
+    ∙ ap {B = Played} (λ (x : ℕ). passed (x ∷ bs)) (y .3)
+
+-- the first start that a plan passes
+first-start : (ts : List Stream) (i : ℕ) (plan : List ℕ) (t : Stream) (p : Piece) → getElem? ts i ≡ some t → getElem? (t .pieces) 0 ≡ some p
+    → firstStart ts (i ∷ plan) ≡ p .from
+unfolding firstStart
+first-start ts i plan t p e h = rw (e, h)
+
+-- a plan whose named tracks fit one list of boundaries runs, and passes that list
+fitting : (ts : List Stream) (scale : ℕ) (plan bs : List ℕ) (a : ℕ) → 1 ≤ length plan → length plan ≡ length bs
+    → All (Named ts scale 0 a bs) plan → playStreams ts plan ≡ passed (a ∷ bs)
+unfolding playStreams begin fits
+fitting ts scale [] bs a h l n = absurd (not-suc-le-zero h)
+fitting ts scale (i ∷ plan) [] a h l n = let z : ⊥ = omega (arith, l) in absurd z
+fitting ts scale (i ∷ plan) (b ∷ bs) a h l n =
+    let t = n .0 .0 in
+    let y = next-piece (t .pieces) 0 a b bs (n .0 .2 .2) in
+    let r : playFrom ts begin (i ∷ plan) ≡ passed (b ∷ bs) = runs ts scale (i ∷ plan) (b ∷ bs) a begin l refl refl n in
+    ap₂ (λ (x : ℕ) (q : Played). tick x q) (first-start ts i plan t (y .0) (n .0 .1) (y .1) ∙ y .2) r
+
+-- a choice of a set that names an accepted track with this timescale and these boundaries
+abbrev pub Chooses : List (List ℕ) → ℕ → List ℕ → ℕ → Type 0
+Chooses ss scale bs i =
+    (s : List ℕ) × (getElem? ss i ≡ some s) × (ruling s ≡ Holds) × (timescale s ≡ scale) × (boundaries s ≡ bs)
+
+-- such a choice fits
+chosen-fits : (ss : List (List ℕ)) (scale a : ℕ) (bs : List ℕ) (n i : ℕ) → Chooses ss scale (a ∷ bs) i
+    → Named (map streamOf ss) scale 0 a (take n bs) i
+unfolding streamOf
+chosen-fits ss scale a bs n i c =
+    let s = c .0 in
+    let h : rules1to18 s ≡ Holds = sound s (c .2) in
+    let y : Tiled (map (pieceAt s (headerOf s)) (fragments s)) (a ∷ bs) = rw (c .4) at (tiled s (c .2)) in
+    (streamOf s, map-at streamOf ss i s (c .1), (ap good h, c .3, tiles-fewer (map (pieceAt s (headerOf s)) (fragments s)) a bs n y))
+
+-- a plan of accepted tracks with one timescale and one list of boundaries runs, and passes the list's first numbers
+pub alike-plays : (ss : List (List ℕ)) (scale : ℕ) (bs plan : List ℕ) → 1 ≤ length plan → length plan < length bs
+    → All (Chooses ss scale bs) plan → play ss plan ≡ passed (take (length plan + 1) bs)
+unfolding play
+alike-plays ss scale [] plan h l c = absurd (not-suc-le-zero l)
+alike-plays ss scale (a ∷ bs) plan h l c =
+    rw (add-one (length plan))
+    (fitting (map streamOf ss) scale plan (take (length plan) bs) a h (sym (length-take-le (length plan) bs (omega arith)))
+    (all-map (Chooses ss scale (a ∷ bs)) (Named (map streamOf ss) scale 0 a (take (length plan) bs)) plan
+    (λ i. chosen-fits ss scale a bs (length plan) i) c))
+
+-- a property of one choice is one of a plan that stays on it
+pub all-stay : (P : ℕ → Type 0) (n i : ℕ) → P i → All P (replicate n i)
+all-stay P zero i h = tt
+all-stay P (suc n) i h = (h, all-stay P n i h)
+
+-- an accepted track plays through by itself, and passes its boundaries
+pub alone : (ss : List (List ℕ)) (i : ℕ) (s : List ℕ) → getElem? ss i ≡ some s → ruling s ≡ Holds → 1 ≤ fragmentCount s
+    → play ss (replicate (fragmentCount s) i) ≡ passed (boundaries s)
+alone ss i s e r h =
+    let n = fragmentCount s in
+    let l : length (replicate n i) ≡ n = length-replicate n i in
+    let b : length (boundaries s) ≡ suc n = boundaries-length s h in
+    alike-plays ss (timescale s) (boundaries s) (replicate n i) (omega (arith, l)) (omega (arith, l, b))
+    (all-stay (Chooses ss (timescale s) (boundaries s)) n i (s, e, r, refl, refl))
+    ∙ ap {B = Played} passed
+    (rw (l, add-one n, ← b) (take-length (boundaries s)))
+
+-- a plan that stays on a track longer than it has fragments is stuck
+stay-stuck : (ts : List Stream) (i : ℕ) (t : Stream) → getElem? ts i ≡ some t → (n : ℕ) (g : State) → length (t .pieces) ≤ g .number + n
+    → playFrom ts g (replicate (suc n) i) ≡ stuck
+unfolding playFrom stepOn after
+stay-stuck ts i t e zero g h = play-stuck ts g i [] t e (rw (beyond (t .pieces) (g .number) (omega (arith, h))))
+stay-stuck ts i t e (suc n) g h = go (stepOn g t) refl (λ p. stay-stuck ts i t e n (after g t p) (omega (arith, h)))
+  where
+    go : (o : Option Piece) → stepOn g t ≡ o → ((p : Piece) → playFrom ts (after g t p) (replicate (suc n) i) ≡ stuck)
+        → playFrom ts g (replicate (suc (suc n)) i) ≡ stuck
+    go none q r = play-stuck ts g i (replicate (suc n) i) t e q
+    go (some p) q r = play-step ts g i (replicate (suc n) i) t p e q ∙ ap (tick (p .to)) (r p)
+
+pub too-long : (ss : List (List ℕ)) (i : ℕ) (s : List ℕ) (n : ℕ) → getElem? ss i ≡ some s → fragmentCount s < n
+    → play ss (replicate n i) ≡ stuck
+unfolding play playStreams streamOf fragmentCount begin
+too-long ss i s zero e h = absurd (not-suc-le-zero h)
+too-long ss i s (suc n) e h =
+    ap (tick (firstStart (map streamOf ss) (replicate (suc n) i)))
+    (stay-stuck (map streamOf ss) i (streamOf s) (map-at streamOf ss i s e) n begin
+    (omega (arith, h, length-map (fragments s) (pieceAt s (headerOf s)))))
+
+-- the player works on what it meets of the tracks' bytes
+pub play-of-bytes : (ss : List (List ℕ)) (plan : List ℕ) → play ss plan ≡ playStreams (map streamOf ss) plan
+unfolding play
+play-of-bytes ss plan = refl
+
+-- from a state on, two lists of tracks that agree at each choice of the plan play alike
+agree-from : (ts us : List Stream) (plan : List ℕ) (g : State) → All (λ i. getElem? ts i ≡ getElem? us i) plan
+    → playFrom ts g plan ≡ playFrom us g plan
+unfolding playFrom
+agree-from ts us [] g a = refl
+agree-from ts us (i ∷ plan) g a = go (getElem? us i) (a .0) (λ t p. agree-from ts us plan (after g t p) (a .1))
+  where
+    rest : (t : Stream) (o : Option Piece) → ((p : Piece) → playFrom ts (after g t p) plan ≡ playFrom us (after g t p) plan)
+        → onOption o stuck (λ p. tick (p .to) (playFrom ts (after g t p) plan))
+        ≡ onOption o stuck (λ p. tick (p .to) (playFrom us (after g t p) plan))
+    rest t none r = refl
+    rest t (some p) r = ap (tick (p .to)) (r p)
+
+    go : (o : Option Stream) → getElem? ts i ≡ o
+        → ((t : Stream) (p : Piece) → playFrom ts (after g t p) plan ≡ playFrom us (after g t p) plan)
+        → playFrom ts g (i ∷ plan) ≡ onOption o stuck (λ t. onOption (stepOn g t) stuck (λ p. tick (p .to) (playFrom us (after g t p) plan)))
+    go none q r = rw q
+    go (some t) q r = rw q (rest t (stepOn g t) (r t))
+
+-- tracks made alike of lists that agree at a choice agree there
+map-agrees : {A B : Type 0} (f : A → B) (xs ys : List A) (i : ℕ) → getElem? xs i ≡ getElem? ys i
+    → getElem? (map f xs) i ≡ getElem? (map f ys) i
+map-agrees {A} {B} f xs ys i e = go (getElem? ys i) e refl
+  where
+    go : (o : Option A) → getElem? xs i ≡ o → getElem? ys i ≡ o → getElem? (map f xs) i ≡ getElem? (map f ys) i
+    go none p q = map-none f xs i p ∙ sym (map-none f ys i q)
+    go (some x) p q = map-at f xs i x p ∙ sym (map-at f ys i x q)
+
+-- the player depends on the bytes of the tracks that the plan names, and on nothing else: neither a verdict, nor a table, nor any other track
+pub named-bytes-alone : (ss us : List (List ℕ)) (plan : List ℕ) → All (λ i. getElem? ss i ≡ getElem? us i) plan → play ss plan ≡ play us plan
+unfolding play playStreams firstStart
+named-bytes-alone ss us [] a = refl
+named-bytes-alone ss us (i ∷ plan) a =
+    ap₂ (λ (x : ℕ) (q : Played). tick x q)
+    (ap (λ (o : Option Stream). onOption o 0 (λ t. onOption (getElem? (t .pieces) 0) 0 (λ p. p .from))) (map-agrees streamOf ss us i (a .0)))
+    (agree-from (map streamOf ss) (map streamOf us) (i ∷ plan) begin
+    (all-map (λ j. getElem? ss j ≡ getElem? us j) (λ j. getElem? (map streamOf ss) j ≡ getElem? (map streamOf us) j) (i ∷ plan)
+    (map-agrees streamOf ss us) a))

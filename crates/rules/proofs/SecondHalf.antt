@@ -1,0 +1,286 @@
+-- Demand 3, second half: tracks accepted singly that are refused as a set under 27 or 28 have two plans that tell them apart.
+use mathlib.Core.Path.{_≡_, refl, sym, ap, subst, _∙_}
+use mathlib.Core.Logic.{_⊎_, inl, inr}
+use mathlib.Core.Bool.{Bool, true, false}
+use mathlib.Core.Option.{some, Option·none-ne-some, Option·some-injective}
+use mathlib.Core.List.{List, [], _∷_}
+use Prim.Native.Nat.{ℕ, zero, suc, _+_, _≤_, _<_, max}
+use native.Mathlib.Decide.{decLt, decLe}
+use native.Mathlib.Omega.{arith}
+use lib.ListN.{length, drop, getElem?, getD, replicate, length-replicate}
+use lib.Dec.{eqb}
+use borrow.Author.Tests.{eqb-true, eqb-false, eq-eqb}
+use Rattle.rules.specs.Rules.{_then_, must, ofTrack}
+use Rattle.rules.specs.Track.{ruling, fragments, fragmentCount, timescale, boundaries}
+use Rattle.rules.specs.Set.{hdlrAt, mdhdAt, handler, rule25, rule26, rule27, firstOr, rule28From, rule28, agrees, rulings, agree, track0, setRuling}
+use Rattle.rules.specs.Player.{Played, stuck, passed, play}
+use Rattle.rules.specs.declared.Rule.{Rule}
+use Rattle.rules.specs.declared.Rule.the-variants.{Holds, Breaks}
+use Rattle.rules.proofs.Laws.{All, all-at}
+use Rattle.rules.proofs.Then.{then-holds, must-true}
+use Rattle.rules.proofs.Boundaries.{no-boundaries}
+use Rattle.rules.proofs.Plays.{alone, too-long}
+
+-- a refusal with this number, track and place
+abbrev pub Refusal : Rule → ℕ → ℕ → ℕ → Type 0
+Refusal Holds n t p = ⊥
+Refusal (Breaks a b c) n t p = (a ≡ n) × (b ≡ t) × (c ≡ p)
+
+pub refusal : (r : Rule) (n t p : ℕ) → r ≡ Breaks n t p → Refusal r n t p
+refusal r n t p e = subst (λ (q : Rule). Refusal q n t p) (sym e) (refl, refl, refl)
+
+-- how a track differs from track 0, by the number of its refusal
+pub data Difference (s₀ s : List ℕ) (n : ℕ) : Type 0 where
+  of25 : n ≡ 25 → (handler s ≡ handler s₀ → ⊥) → Difference s₀ s n
+  of26 : n ≡ 26 → (timescale s ≡ timescale s₀ → ⊥) → Difference s₀ s n
+  of27 : n ≡ 27 → (fragmentCount s ≡ fragmentCount s₀ → ⊥) → Difference s₀ s n
+  of28 : n ≡ 28 → fragmentCount s ≡ fragmentCount s₀ → (boundaries s ≡ boundaries s₀ → ⊥) → Difference s₀ s n
+
+-- rule 28 gives no other number, and holds of a list beside itself
+only-28 : (last : ℕ) (xs ys ps : List ℕ) (n t p : ℕ) → Refusal (rule28From last xs ys ps) n t p → n ≡ 28
+unfolding rule28From must _then_
+only-28 last [] ys ps n t p h = absurd h
+only-28 last (x ∷ xs) ys ps n t p h = go (eqb (firstOr 0 ys) x) h (only-28 (firstOr last ps) xs (drop 1 ys) (drop 1 ps) n t p)
+  where
+    go : (b : Bool) → Refusal (must b 28 (firstOr last ps) then rule28From (firstOr last ps) xs (drop 1 ys) (drop 1 ps)) n t p
+        → (Refusal (rule28From (firstOr last ps) xs (drop 1 ys) (drop 1 ps)) n t p → n ≡ 28) → n ≡ 28
+    go true y f = f y
+    go false y f = sym (y .0)
+
+itself : (last : ℕ) (xs ps : List ℕ) → rule28From last xs xs ps ≡ Holds
+unfolding rule28From
+itself last [] ps = refl
+itself last (x ∷ xs) ps =
+    then-holds (rule28From (firstOr last ps) xs xs (drop 1 ps)) (must-true 28 (firstOr last ps) (eq-eqb x x refl))
+    ∙ itself (firstOr last ps) xs (drop 1 ps)
+
+-- a track refused beside track 0 differs from it
+differs : (s₀ s : List ℕ) (n t p : ℕ) → Refusal (agrees s₀ s) n t p → Difference s₀ s n
+unfolding agrees rule25 rule26 rule27 rule28 must _then_
+differs s₀ s n t p h =
+    go (eqb (handler s) (handler s₀)) (eqb (timescale s) (timescale s₀)) (eqb (fragmentCount s) (fragmentCount s₀)) refl refl refl h
+  where
+    twenty-eight : Rule
+    twenty-eight = rule28From 0 (boundaries s₀) (boundaries s) (fragments s)
+
+    other : Refusal twenty-eight n t p → boundaries s ≡ boundaries s₀ → ⊥
+    other y e =
+        subst (λ (q : Rule). Refusal q n t p)
+        (ap (λ (bs : List ℕ). rule28From 0 (boundaries s₀) bs (fragments s)) e ∙ itself 0 (boundaries s₀) (fragments s)) y
+
+    go : (a b c : Bool) → eqb (handler s) (handler s₀) ≡ a → eqb (timescale s) (timescale s₀) ≡ b
+        → eqb (fragmentCount s) (fragmentCount s₀) ≡ c
+        → Refusal (must a 25 (hdlrAt s) then must b 26 (mdhdAt s) then must c 27 (length s) then twenty-eight) n t p → Difference s₀ s n
+    go false b c e f g y = of25 (sym (y .0)) (eqb-false (handler s) (handler s₀) e)
+    go true false c e f g y = of26 (sym (y .0)) (eqb-false (timescale s) (timescale s₀) f)
+    go true true false e f g y = of27 (sym (y .0)) (eqb-false (fragmentCount s) (fragmentCount s₀) g)
+    go true true true e f g y =
+        of28 (only-28 0 (boundaries s₀) (boundaries s) (fragments s) n t p y) (eqb-true (fragmentCount s) (fragmentCount s₀) g) (other y)
+
+-- the track that a refusal names is the first one that differs
+named : (s₀ : List ℕ) (j : ℕ) (ss : List (List ℕ)) (n k p : ℕ) → Refusal (agree s₀ j ss) n k p
+    → (i : ℕ) × (s : List ℕ) × (k ≡ j + i) × (getElem? ss i ≡ some s) × Difference s₀ s n
+unfolding agree ofTrack _then_
+named s₀ j [] n k p h = absurd h
+named s₀ j (s ∷ ss) n k p h = go (agrees s₀ s) refl h (named s₀ (j + 1) ss n k p)
+  where
+    go : (r : Rule) → agrees s₀ s ≡ r → Refusal (ofTrack j r then agree s₀ (j + 1) ss) n k p
+        → (Refusal (agree s₀ (j + 1) ss) n k p
+        → (i : ℕ) × (s : List ℕ) × (k ≡ j + 1 + i) × (getElem? ss i ≡ some s) × Difference s₀ s n)
+        → (i : ℕ) × (s′ : List ℕ) × (k ≡ j + i) × (getElem? (s ∷ ss) i ≡ some s′) × Difference s₀ s′ n
+    go Holds e y f = let q = f y in (suc (q .0), q .1, omega (arith, q .2), q .3, q .4)
+    go (Breaks a b c) e y f =
+        (0, s, omega (arith, y .1), refl, differs s₀ s n b p (rw e (y .0, refl, y .2)))
+
+-- tracks accepted one by one have no broken ruling
+pub all-hold : (k : ℕ) (ss : List (List ℕ)) → All (λ s. ruling s ≡ Holds) ss → rulings k ss ≡ Holds
+unfolding rulings ofTrack
+all-hold k [] h = refl
+all-hold k (s ∷ ss) h =
+    then-holds (rulings (k + 1) ss) (ap (ofTrack k) (h .0)) ∙ all-hold (k + 1) ss (h .1)
+
+-- a set of tracks accepted one by one that is refused: track 0, and the track that the refusal names
+pub told-apart : (ss : List (List ℕ)) (n k p : ℕ) → All (λ s. ruling s ≡ Holds) ss → setRuling ss ≡ Breaks n k p
+    → (s : List ℕ) × (getElem? ss 0 ≡ some (track0 ss)) × (getElem? ss k ≡ some s) × Difference (track0 ss) s n
+unfolding setRuling agree
+told-apart [] n k p a h =
+    absurd (refusal Holds n k p (sym (then-holds Holds (all-hold 0 [] tt)) ∙ h))
+told-apart (s₀ ∷ ss) n k p a h =
+    let q = named s₀ 1 ss n k p
+    (refusal (agree s₀ 1 ss) n k p (sym (then-holds (agree s₀ 1 ss) (all-hold 0 (s₀ ∷ ss) a)) ∙ h)) in
+    let e : k ≡ suc (q .0) = omega (arith, q .2) in
+    (q .1, refl, ap (λ (i : ℕ). getElem? (s₀ ∷ ss) i) e ∙ q .3, q .4)
+
+-- the track of a number in a set
+abbrev pub trackAt : List (List ℕ) → ℕ → List ℕ
+trackAt ss k = getD ss k []
+
+-- the plan that stays on track i, as long as the longer of track 0 and track k
+unfoldable pub stays : List (List ℕ) → ℕ → ℕ → List ℕ
+stays ss k i = replicate (max (fragmentCount (track0 ss)) (fragmentCount (trackAt ss k))) i
+
+-- the longest track's number of fragments
+unfoldable pub longest : List (List ℕ) → ℕ
+longest [] = 0
+longest (s ∷ ss) = max (fragmentCount s) (longest ss)
+
+-- one runs through and the other gets stuck
+abbrev pub OneStuck : Played → Played → Type 0
+OneStuck a b = ((ts : List ℕ) × (a ≡ passed ts) × (b ≡ stuck)) ⊎ ((ts : List ℕ) × (a ≡ stuck) × (b ≡ passed ts))
+
+-- both run and their ticks differ
+abbrev pub TicksDiffer : Played → Played → Type 0
+TicksDiffer a b = (ts : List ℕ) × (us : List ℕ) × (a ≡ passed ts) × (b ≡ passed us) × (ts ≡ us → ⊥)
+
+-- a track of a set is no longer than its longest
+no-longer : (ss : List (List ℕ)) (i : ℕ) (s : List ℕ) → getElem? ss i ≡ some s → fragmentCount s ≤ longest ss
+unfolding longest
+no-longer [] i s e = absurd (Option·none-ne-some s e)
+no-longer (t ∷ ss) zero s e = let h : fragmentCount t ≡ fragmentCount s = ap fragmentCount (Option·some-injective t s e) in omega (arith, h)
+no-longer (t ∷ ss) (suc i) s e = let h = no-longer ss i s e in omega (arith, h)
+
+-- the track of a number that has one
+track-at : (ss : List (List ℕ)) (i : ℕ) (s : List ℕ) → getElem? ss i ≡ some s → trackAt ss i ≡ s
+track-at [] i s e = absurd (Option·none-ne-some s e)
+track-at (t ∷ ss) zero s e = Option·some-injective t s e
+track-at (t ∷ ss) (suc i) s e = track-at ss i s e
+
+-- the two plans are of equal length, at most the longest track's number of fragments
+pub stays-equal : (ss : List (List ℕ)) (k i j : ℕ) → length (stays ss k i) ≡ length (stays ss k j)
+unfolding stays
+stays-equal ss k i j =
+    let n = max (fragmentCount (track0 ss)) (fragmentCount (trackAt ss k)) in
+    length-replicate n i ∙ sym (length-replicate n j)
+
+-- as long a plan as a track has fragments runs through
+through : (ss : List (List ℕ)) → All (λ s. ruling s ≡ Holds) ss → (i : ℕ) (s : List ℕ) (n : ℕ) → getElem? ss i ≡ some s → 1 ≤ n
+    → n ≡ fragmentCount s → play ss (replicate n i) ≡ passed (boundaries s)
+through ss a i s n e l q = rw q (alone ss i s e (all-at (λ t. ruling t ≡ Holds) ss i s a e) (omega (arith, l, q)))
+
+module _ (ss : List (List ℕ)) (n k p : ℕ) (a : All (λ s. ruling s ≡ Holds) ss) (h : setRuling ss ≡ Breaks n k p) where
+  -- the track that the refusal names, and how it differs from track 0
+  s : List ℕ
+  s = told-apart ss n k p a h .0
+
+  at-0 : getElem? ss 0 ≡ some (track0 ss)
+  at-0 = told-apart ss n k p a h .1
+
+  at-k : getElem? ss k ≡ some s
+  unfolding s
+  at-k = told-apart ss n k p a h .2
+
+  difference : Difference (track0 ss) s n
+  unfolding s
+  difference = told-apart ss n k p a h .3
+
+  as-at-k : fragmentCount (trackAt ss k) ≡ fragmentCount s
+  as-at-k = ap fragmentCount (track-at ss k s at-k)
+
+  -- how long the plans are
+  long : ℕ
+  long = max (fragmentCount (track0 ss)) (fragmentCount (trackAt ss k))
+
+  pub stays-short : (i : ℕ) → length (stays ss k i) ≤ longest ss
+  unfolding stays
+  stays-short i =
+      omega (
+        arith,
+        length-replicate (max (fragmentCount (track0 ss)) (fragmentCount (trackAt ss k))) i,
+        no-longer ss 0 (track0 ss) at-0,
+        no-longer ss k s at-k,
+        as-at-k,
+      )
+
+  -- tracks of other lengths: the plans on the longer run through, and on the shorter get stuck
+  by-length : (fragmentCount s ≡ fragmentCount (track0 ss) → ⊥) → OneStuck (play ss (stays ss k 0)) (play ss (stays ss k k))
+  unfolding stays long
+  by-length d = go (decLt (fragmentCount (track0 ss)) (fragmentCount s))
+    where
+      go : Dec (fragmentCount (track0 ss) < fragmentCount s) → OneStuck (play ss (replicate long 0)) (play ss (replicate long k))
+      go (yes l) =
+          inr (
+            boundaries s,
+            too-long ss 0 (track0 ss) long at-0 (omega (arith, l, as-at-k)),
+            through ss a k s long at-k (omega (arith, l, as-at-k)) (omega (arith, l, as-at-k)),
+          )
+      go (no l) =
+          inl (
+            boundaries (track0 ss),
+            through ss a 0 (track0 ss) long at-0 (omega (arith, l, as-at-k, d)) (omega (arith, l, as-at-k, d)),
+            too-long ss k s long at-k (omega (arith, l, as-at-k, d)),
+          )
+
+  -- tracks of one length and other boundaries: both plans run
+  by-boundary : fragmentCount s ≡ fragmentCount (track0 ss) → (boundaries s ≡ boundaries (track0 ss) → ⊥)
+      → TicksDiffer (play ss (stays ss k 0)) (play ss (stays ss k k))
+  unfolding stays long
+  by-boundary c d = go (decLe 1 long)
+    where
+      go : Dec (1 ≤ long) → TicksDiffer (play ss (replicate long 0)) (play ss (replicate long k))
+      go (yes l) = (
+        boundaries (track0 ss),
+        boundaries s,
+        through ss a 0 (track0 ss) long at-0 l (omega (arith, as-at-k, c)),
+        through ss a k s long at-k l (omega (arith, as-at-k, c)),
+        λ q. d (sym q),
+      )
+      go (no l) =
+          absurd (d (no-boundaries s (omega (arith, l, as-at-k)) ∙ sym (no-boundaries (track0 ss) (omega (arith, l)))))
+
+-- under 27: one of the two plans runs through and the other gets stuck
+pub second-half-27 : (ss : List (List ℕ)) (k p : ℕ) → All (λ s. ruling s ≡ Holds) ss → setRuling ss ≡ Breaks 27 k p
+    → OneStuck (play ss (stays ss k 0)) (play ss (stays ss k k))
+second-half-27 ss k p a h = go (difference ss 27 k p a h)
+  where
+    go : Difference (track0 ss) (s ss 27 k p a h) 27 → OneStuck (play ss (stays ss k 0)) (play ss (stays ss k k))
+    go (of25 n d) = let z : ⊥ = omega (arith, n) in absurd z
+    go (of26 n d) = let z : ⊥ = omega (arith, n) in absurd z
+    go (of27 n d) = by-length ss 27 k p a h d
+    go (of28 n c d) = let z : ⊥ = omega (arith, n) in absurd z
+
+-- under 28: both plans run and their ticks differ
+pub second-half-28 : (ss : List (List ℕ)) (k p : ℕ) → All (λ s. ruling s ≡ Holds) ss → setRuling ss ≡ Breaks 28 k p
+    → TicksDiffer (play ss (stays ss k 0)) (play ss (stays ss k k))
+second-half-28 ss k p a h = go (difference ss 28 k p a h)
+  where
+    go : Difference (track0 ss) (s ss 28 k p a h) 28 → TicksDiffer (play ss (stays ss k 0)) (play ss (stays ss k k))
+    go (of25 n d) = let z : ⊥ = omega (arith, n) in absurd z
+    go (of26 n d) = let z : ⊥ = omega (arith, n) in absurd z
+    go (of27 n d) = let z : ⊥ = omega (arith, n) in absurd z
+    go (of28 n c d) = by-boundary ss 28 k p a h c d
+
+-- two plans that tell a set apart: of equal length, at most the longest track's number of fragments; one runs through and the
+-- other gets stuck, or both run and their ticks differ
+abbrev pub ToldApart : (List (List ℕ) → List ℕ → Played) → List (List ℕ) → List ℕ → List ℕ → Type 0
+ToldApart player ss one other =
+    (length one ≡ length other)
+    × (length one ≤ longest ss)
+    × (OneStuck (player ss one) (player ss other) ⊎ TicksDiffer (player ss one) (player ss other))
+
+-- the second half: tracks accepted singly and refused as a set under 27 or 28; the plans stay on track 0 and on the track that the refusal names
+pub second-half : (ss : List (List ℕ)) (k p : ℕ) → All (λ s. ruling s ≡ Holds) ss
+    → (setRuling ss ≡ Breaks 27 k p) ⊎ (setRuling ss ≡ Breaks 28 k p) → ToldApart play ss (stays ss k 0) (stays ss k k)
+second-half ss k p a (inl h) = (stays-equal ss k 0 k, stays-short ss 27 k p a h 0, inl (second-half-27 ss k p a h))
+second-half ss k p a (inr h) = (stays-equal ss k 0 k, stays-short ss 28 k p a h 0, inr (second-half-28 ss k p a h))
+
+-- tracks accepted singly, of one handler and one timescale, are refused as a set under 27 or 28 and no other number
+pub only-27-or-28 : (ss : List (List ℕ)) (n k p : ℕ) → All (λ s. ruling s ≡ Holds) ss
+    → All (λ s. (handler s ≡ handler (track0 ss)) × (timescale s ≡ timescale (track0 ss))) ss → setRuling ss ≡ Breaks n k p
+    → (n ≡ 27) ⊎ (n ≡ 28)
+only-27-or-28 ss n k p a o h = go (told-apart ss n k p a h .0) (told-apart ss n k p a h .2) (told-apart ss n k p a h .3)
+  where
+    go : (s : List ℕ) → getElem? ss k ≡ some s → Difference (track0 ss) s n → (n ≡ 27) ⊎ (n ≡ 28)
+    go s e (of25 q d) = absurd (d (all-at (λ t. (handler t ≡ handler (track0 ss)) × (timescale t ≡ timescale (track0 ss))) ss k s o e .0))
+    go s e (of26 q d) = absurd (d (all-at (λ t. (handler t ≡ handler (track0 ss)) × (timescale t ≡ timescale (track0 ss))) ss k s o e .1))
+    go s e (of27 q d) = inl q
+    go s e (of28 q c d) = inr q
+
+-- so of one handler and one timescale: any refusal of the set at all gives the two plans
+pub second-half-refused : (ss : List (List ℕ)) (n k p : ℕ) → All (λ s. ruling s ≡ Holds) ss
+    → All (λ s. (handler s ≡ handler (track0 ss)) × (timescale s ≡ timescale (track0 ss))) ss → setRuling ss ≡ Breaks n k p
+    → ToldApart play ss (stays ss k 0) (stays ss k k)
+second-half-refused ss n k p a o h = go (only-27-or-28 ss n k p a o h)
+  where
+    go : (n ≡ 27) ⊎ (n ≡ 28) → ToldApart play ss (stays ss k 0) (stays ss k k)
+    go (inl e) = second-half ss k p a (inl (h ∙ ap (λ (m : ℕ). Breaks m k p) e))
+    go (inr e) = second-half ss k p a (inr (h ∙ ap (λ (m : ℕ). Breaks m k p) e))

@@ -1,0 +1,4 @@
+pub mod Records
+pub mod Beside
+pub mod Following
+pub mod Outcomes

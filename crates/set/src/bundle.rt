@@ -1,0 +1,83 @@
+// The bundle: its records, and rule 24.
+ghost use mathlib.Core.Path.{_≡_};
+ghost use lib.ListN.{length};
+ghost use Rattle.rules.specs.Bundle.{recordAt};
+ghost use Rattle.set.specs.Says.{markBounds, saysBundle, endedOf};
+use rules::Mark;
+
+// Rule 24: the records of a bundle.
+pub const RECORD_LIMIT: u64 = 16;
+
+// The two-byte mark of a record.
+const MARK: u32 = 0x5357;
+
+// How a bundle is framed: its number of records, or the first bad one with the good ones before it.
+pub enum Bundled {
+    Framed(u64),
+    Broken { track: u64, place: u64 },
+}
+
+// What stands at a place of a bundle.
+pub fn record_at(b: &[u8], at: usize) -> Mark
+    ensures { λ r. ⌜ r ≡ recordAt (now (b .entry)) at ⌝ }
+    ensures { λ r. ⌜ markBounds r (length (now (b .entry))) at ⌝ }
+{
+    if b.len() <= at {
+        return Mark::Nothing;
+    }
+    let left = b.len() - at;
+    if left < 6 {
+        return Mark::Wrong;
+    }
+    if numbers::be2(b, at) != MARK {
+        return Mark::Wrong;
+    }
+    let n = numbers::be4(b, at + 2) as usize;
+    if left - 6 < n {
+        return Mark::Wrong;
+    }
+    Mark::Track(n)
+}
+
+// Rule 24 of a bundle.
+pub fn framed(b: &[u8]) -> Bundled
+    ensures { λ r. ⌜ saysBundle r (now (b .entry)) ⌝ }
+{
+    let mut at: usize = 0;
+    let mut k: u64 = 0;
+    while k < RECORD_LIMIT {
+        let mark = record_at(b, at);
+        match mark {
+            Mark::Nothing => {
+                return ended(k);
+            }
+            Mark::Wrong => {
+                return Bundled::Broken {
+                    track: k,
+                    place: at as u64,
+                };
+            }
+            Mark::Track(n) => {
+                at = at + 6 + n;
+                k += 1;
+            }
+        }
+    }
+    if at < b.len() {
+        return Bundled::Broken {
+            track: k,
+            place: at as u64,
+        };
+    }
+    ended(k)
+}
+
+// Where no bytes are left after some records: no record at all breaks rule 24.
+fn ended(k: u64) -> Bundled
+    ensures { λ r. ⌜ r ≡ endedOf k ⌝ }
+{
+    if k == 0 {
+        return Bundled::Broken { track: 0, place: 0 };
+    }
+    Bundled::Framed(k)
+}

@@ -1,0 +1,140 @@
+// The set check: the bundle framed whole, each track by itself, each beside track 0, then room.
+ghost use mathlib.Core.Path.{_≡_};
+ghost use Prim.Native.Nat.{_+_, _≤_};
+ghost use lib.ListN.{length};
+ghost use Rattle.rules.specs.Limits.{byteLimit};
+ghost use Rattle.rules.specs.Rules.{_then_, ofTrack};
+ghost use Rattle.rules.specs.Bundle.{rule24, tracks};
+ghost use Rattle.rules.specs.Set.{agrees, setOutcome};
+ghost use Rattle.rules.specs.declared.Rule.the-variants.{Holds};
+ghost use Rattle.track.specs.Says.{Known};
+ghost use Rattle.set.specs.Says.{restOf, allOf};
+use bundle::Bundled;
+use rules::Mark;
+use rules::Rule;
+use rules::Verdict;
+use track::BYTE_LIMIT;
+use track::Facts;
+use track::Judged;
+
+pub mod agree;
+pub mod bundle;
+
+// What was broken before a track, else what it breaks beside track 0.
+fn also(sofar: Rule, k: u64, s0: &[u8], f0: Facts, s: &[u8], f: Facts) -> Rule
+    requires { ⌜ Known (now s0) f0 × Known (now s) f ⌝ }
+    ensures { λ r. ⌜ r ≡ (sofar then ofTrack k (agrees (now (s0 .entry)) (now (s .entry)))) ⌝ }
+{
+    match sofar {
+        Rule::Breaks {
+            number,
+            track,
+            place,
+        } => Rule::Breaks {
+            number,
+            track,
+            place,
+        },
+        Rule::Holds => numbered(k, agree::agrees(s0, f0, s, f)),
+    }
+}
+
+// A track's rule as track k of the set.
+fn numbered(k: u64, r: Rule) -> Rule
+    ensures { λ q. ⌜ q ≡ ofTrack k r ⌝ }
+{
+    match r {
+        Rule::Holds => Rule::Holds,
+        Rule::Breaks {
+            number,
+            track: _,
+            place,
+        } => Rule::Breaks {
+            number,
+            track: k,
+            place,
+        },
+    }
+}
+
+// The tracks after track 0, from a place of the bundle on: each by itself, then each beside track 0.
+fn others(b: &[u8], from: usize, s0: &[u8], f0: Facts) -> Rule
+    requires { ⌜ Known (now s0) f0 × (from ≤ length (now b)) ⌝ }
+    ensures { λ r. ⌜ r ≡ allOf (now (b .entry)) (now (s0 .entry)) from ⌝ }
+{
+    let mut at = from;
+    let mut k: u64 = 1;
+    let mut sofar = Rule::Holds;
+    while k < bundle::RECORD_LIMIT {
+        let mark = bundle::record_at(b, at);
+        let Mark::Track(n) = mark else {
+            return sofar;
+        };
+        let a = at + 6;
+        let e = a + n;
+        let s = &b[a..e];
+        match track::judge(s) {
+            Judged::Refused { number, place } => {
+                return Rule::Breaks {
+                    number,
+                    track: k,
+                    place,
+                };
+            }
+            Judged::Accepted(f) => {
+                sofar = also(sofar, k, s0, f0, s, f);
+                at = e;
+                k += 1;
+            }
+        }
+    }
+    sofar
+}
+
+// The tracks of a framed bundle, then room.
+fn members(b: &[u8], t: &mut [u64]) -> Verdict
+    requires { ⌜ (length (now b) ≤ byteLimit) × (rule24 (now b) ≡ Holds) × (1 ≤ length (tracks (now b))) ⌝ }
+    ensures { λ r. ⌜ record { verdict = r; table = now (t .exit) } ≡ setOutcome (now (b .entry)) (now (t .entry)) ⌝ }
+{
+    let mark = bundle::record_at(b, 0);
+    let Mark::Track(n) = mark else {
+        return track::refused(24, 0, 0);
+    };
+    let a = 6;
+    let e = a + n;
+    let s0 = &b[a..e];
+    match track::judge(s0) {
+        Judged::Refused { number, place } => track::refused(number, 0, place),
+        Judged::Accepted(f0) => match others(b, e, s0, f0) {
+            Rule::Breaks {
+                number,
+                track,
+                place,
+            } => track::refused(number, track, place),
+            Rule::Holds => track::accept(s0, f0, t),
+        },
+    }
+}
+
+// The set job: the bundle framed whole, every track, every track beside track 0, then room, and the boundaries.
+pub fn check(b: &[u8], t: &mut [u64]) -> Verdict
+    ensures { λ r. ⌜ record { verdict = r; table = now (t .exit) } ≡ setOutcome (now (b .entry)) (now (t .entry)) ⌝ }
+{
+    if BYTE_LIMIT < b.len() {
+        return track::refused(1, 0, 0);
+    }
+    match bundle::framed(b) {
+        Bundled::Broken { track, place } => track::refused(24, track, place),
+        Bundled::Framed(_) => members(b, t),
+    }
+}
+
+// How many tracks a bundle has: its good records.
+pub fn tracks(b: &[u8]) -> u64
+    ensures { λ r. ⌜ r ≡ length (tracks (now (b .entry))) ⌝ }
+{
+    match bundle::framed(b) {
+        Bundled::Broken { track, place: _ } => track,
+        Bundled::Framed(k) => k,
+    }
+}

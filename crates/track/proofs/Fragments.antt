@@ -1,0 +1,95 @@
+-- Laws of the walk over fragments: one fragment by its own bytes, and one fragment more.
+use mathlib.Core.Path.{_≡_, refl, sym, ap, _∙_}
+use mathlib.Core.List.{List, [], _∷_}
+use Prim.Native.Nat.{ℕ, suc, _+_, _-_, _≤_}
+use native.Mathlib.Omega.{arith}
+use lib.ListN.{length, drop, length-take, length-drop}
+use Rattle.rules.specs.Rules.{_then_}
+use Rattle.rules.specs.Boxes.{boxes, placesOf, whole, headOf, sizeOf}
+use Rattle.rules.specs.Kinds.{moof}
+use Rattle.rules.specs.Fragment.{shape, timing, startOf, endOf}
+use Rattle.rules.specs.Track.{fragments, fragmentsFrom, fragmentCount, mdatAt, shapeAt, timingAt, startAt, endAt, rules14to22}
+use Rattle.rules.proofs.Then.{then-holds, then-breaks, then-assoc}
+use Rattle.rules.specs.declared.Header.{Header}
+use Rattle.rules.specs.declared.Rule.{Rule}
+use Rattle.rules.specs.declared.Rule.the-variants.{Holds, Breaks}
+use Rattle.fragment.specs.Timing.{saysFragment}
+use Rattle.fragment.specs.declared.Fragment.{Fragment}
+use Rattle.fragment.specs.declared.Fragment.the-variants.{Good, Refused}
+use Rattle.boxes.specs.Siblings.{Comes}
+use Rattle.track.specs.Says.{saysAt, lastFrom}
+
+-- what is said of a fragment's own bytes is said of the fragment at its place
+pub placed : (r : Fragment) (s : List ℕ) (h : Header) (k prev x : ℕ) (m : List ℕ) (head size : ℕ)
+    → m ≡ whole s x
+    → head ≡ headOf s (x + length m)
+    → size ≡ sizeOf s (x + length m)
+    → saysFragment r (shape x m (h .id) then timing x m (h .defaults) head (size - head) k prev) m (h .defaults)
+    → saysAt r s h k prev x
+unfolding shapeAt timingAt startAt endAt mdatAt
+placed (Good f) s h k prev x m head size e f₁ f₂ p = rw (← e, ← f₁, ← f₂) p
+placed (Refused n q) s h k prev x m head size e f₁ f₂ p = rw (← e, ← f₁, ← f₂) p
+
+-- a box's bytes are no more than the slice's
+pub whole-fits : (s : List ℕ) (x : ℕ) (m : List ℕ) → m ≡ whole s x → length m ≤ length s
+unfolding whole
+whole-fits s x m e = omega (arith, ap length e, length-take (sizeOf s x) (drop x s), length-drop x s)
+
+-- the walk stands at a place, before the k-th fragment, after an end: the whole comes to what is left
+pub record Going (s : List ℕ) (h : Header) (at k prev : ℕ) : Type 0 where
+  pub rules : rules14to22 s h 0 0 (fragments s) ≡ rules14to22 s h k prev (fragmentsFrom s at)
+  pub count : fragmentCount s ≡ k + length (fragmentsFrom s at)
+  pub last : lastFrom s h 0 (fragments s) ≡ lastFrom s h prev (fragmentsFrom s at)
+  pub few : k ≤ at
+  pub inner : at ≤ length s
+
+pub going-begins : (s : List ℕ) (h : Header) → Going s h 0 0 0
+unfolding fragmentCount
+going-begins s h = record { rules = refl; count = omega arith; last = refl; few = omega arith; inner = omega arith }
+
+module _ (s : List ℕ) (h : Header) {at k prev : ℕ} (g : Going s h at k prev) where
+  -- no fragment is left
+  pub going-done : placesOf moof (boxes s at) ≡ []
+      → (rules14to22 s h 0 0 (fragments s) ≡ Holds)
+      × (k ≡ fragmentCount s)
+      × (prev ≡ lastFrom s h 0 (fragments s))
+      × (k ≤ length s)
+  unfolding fragmentsFrom rules14to22 lastFrom
+  going-done e = (
+    g .rules ∙ ap (rules14to22 s h k prev) e,
+    omega (arith, g .count, ap length e),
+    sym (g .last ∙ ap (lastFrom s h prev) e),
+    omega (arith, g .few, g .inner),
+  )
+
+  module _ {p q : ℕ} (c : Comes s at moof p q) where
+    -- the fragment at p is the next
+    next : fragmentsFrom s at ≡ p ∷ fragmentsFrom s q
+    unfolding fragmentsFrom
+    next = c .places
+
+    -- it breaks a rule
+    pub going-cut : {n y : ℕ} → (shapeAt s h p then timingAt s h k prev p) ≡ Breaks n 0 y → rules14to22 s h 0 0 (fragments s) ≡ Breaks n 0 y
+    unfolding rules14to22
+    going-cut e =
+        g .rules
+        ∙ ap (rules14to22 s h k prev) next
+        ∙ sym (then-assoc (shapeAt s h p) (timingAt s h k prev p) (rules14to22 s h (k + 1) (endAt s h p) (fragmentsFrom s q)))
+        ∙ then-breaks (rules14to22 s h (k + 1) (endAt s h p) (fragmentsFrom s q)) e
+
+    -- its rules hold
+    pub going-on : (end : ℕ) → (shapeAt s h p then timingAt s h k prev p) ≡ Holds → end ≡ endAt s h p → Going s h q (k + 1) end
+    unfolding rules14to22 lastFrom
+    going-on end e f =
+        record {
+          rules =
+              g .rules
+              ∙ ap (rules14to22 s h k prev) next
+              ∙ sym (then-assoc (shapeAt s h p) (timingAt s h k prev p) (rules14to22 s h (k + 1) (endAt s h p) (fragmentsFrom s q)))
+              ∙ then-holds (rules14to22 s h (k + 1) (endAt s h p) (fragmentsFrom s q)) e
+              ∙ ap (λ (y : ℕ). rules14to22 s h (k + 1) y (fragmentsFrom s q)) (sym f);
+          count = omega (arith, g .count, ap length next);
+          last = g .last ∙ ap (lastFrom s h prev) next ∙ ap (λ (y : ℕ). lastFrom s h y (fragmentsFrom s q)) (sym f);
+          few = omega (arith, g .few, c .from, c .past);
+          inner = c .inner;
+        }

@@ -1,0 +1,5 @@
+pub mod Rule6
+pub mod Fragments
+pub mod Judging
+pub mod Stages
+pub mod Table

@@ -1,0 +1,233 @@
+// The track check: every rule over one slice, then room, with the boundaries written to a lent table.
+ghost use mathlib.Core.Path.{_≡_};
+ghost use mathlib.Core.List.{_++_};
+ghost use Prim.Native.Nat.{_+_, _≤_};
+ghost use lib.ListN.{length, drop};
+ghost use Rattle.rules.specs.Limits.{byteLimit};
+ghost use Rattle.rules.specs.Rules.{_then_};
+ghost use Rattle.rules.specs.Framing.{rules2to5};
+ghost use Rattle.rules.specs.Order.{rule6};
+ghost use Rattle.rules.specs.Track.{moovAt, headerOf, fragments, fragmentCount, rules14to22, rulesOfHeader, ruling, timescale, boundaries, roomFor, trackOutcome};
+ghost use Rattle.track.specs.Says.{lastEnd, saysAt, saysWalk, headed, Known, saysJudged};
+use boxes::Next;
+use boxes::kinds::MOOF;
+use boxes::kinds::MOOV;
+use fragment::Fragment;
+use header::Headed;
+use rules::Framing;
+use rules::Header;
+use rules::Rule;
+use rules::Verdict;
+
+pub mod order;
+
+// Rule 1: the bytes of a slice.
+pub const BYTE_LIMIT: usize = 1073741824;
+
+// What is known of an accepted track: the places of `hdlr` and `mdhd` in it, and the last fragment's end.
+pub struct Facts {
+    pub fragments: u64,
+    pub timescale: u32,
+    pub handler: u32,
+    pub hdlr: u64,
+    pub mdhd: u64,
+    pub last: u64,
+}
+
+// A track's verdict but for room.
+pub enum Judged {
+    Accepted(Facts),
+    Refused { number: u64, place: u64 },
+}
+
+// What the fragments come to: their number and the last end, or the first broken rule.
+pub enum Walk {
+    Done { count: u64, last: u64 },
+    Cut { number: u64, place: u64 },
+}
+
+// Rules 14 to 22 of the fragment at a place.
+fn fragment_at(s: &[u8], x: usize, h: Header, k: u64, prev: u64) -> Fragment
+    requires { ⌜ (x ≤ byteLimit) × (length (now s) ≤ byteLimit) ⌝ }
+    ensures { λ r. ⌜ saysAt r (now (s .entry)) h k prev x ⌝ }
+{
+    let moof = fields::whole(s, x);
+    let mdat = x + moof.len();
+    let head = fields::head_of(s, mdat) as u64;
+    let size = fields::size_of(s, mdat);
+    fragment::check(moof, x as u64, head, fields::less(size, head), h, k, prev)
+}
+
+// Rules 14 to 22, fragment by fragment.
+fn all_fragments(s: &[u8], h: Header) -> Walk
+    requires { ⌜ length (now s) ≤ byteLimit ⌝ }
+    ensures { λ r. ⌜ saysWalk r (now (s .entry)) h ⌝ }
+{
+    let mut at: usize = 0;
+    let mut k: u64 = 0;
+    let mut prev: u64 = 0;
+    loop {
+        let found = boxes::next_of(s, at, MOOF);
+        let Next::At { place, next } = found else {
+            return Walk::Done {
+                count: k,
+                last: prev,
+            };
+        };
+        let f = fragment_at(s, place, h, k, prev);
+        match f {
+            Fragment::Good(x) => {
+                prev = x.end;
+                k += 1;
+                at = next;
+            }
+            Fragment::Refused { number, place: p } => {
+                return Walk::Cut { number, place: p };
+            }
+        }
+    }
+}
+
+// Rules 14 to 22, after the header.
+fn after_header(s: &[u8], base: u64, x: header::Facts) -> Judged
+    requires { ⌜ (length (now s) ≤ byteLimit) × (base ≤ byteLimit) ⌝ }
+    requires { ⌜ headed (now s) base x ⌝ }
+    requires { ⌜ 1 ≤ fragmentCount (now s) ⌝ }
+    ensures { λ r. ⌜ saysJudged r (now (s .entry)) (rules14to22 (now (s .entry)) (headerOf (now (s .entry))) 0 0 (fragments (now (s .entry)))) ⌝ }
+{
+    let h = x.header;
+    match all_fragments(s, h) {
+        Walk::Done { count, last } => Judged::Accepted(Facts {
+            fragments: count,
+            timescale: h.timescale,
+            handler: h.handler,
+            hdlr: base + x.hdlr as u64,
+            mdhd: base + x.mdhd as u64,
+            last,
+        }),
+        Walk::Cut { number, place } => Judged::Refused { number, place },
+    }
+}
+
+// Where `moov` stands: the first box of that type.
+fn moov_at(s: &[u8]) -> usize
+    ensures { λ r. ⌜ r ≡ moovAt (now (s .entry)) ⌝ }
+    ensures { λ r. ⌜ r ≤ length (now (s .entry)) ⌝ }
+{
+    let found = boxes::next_of(s, 0, MOOV);
+    match found {
+        Next::At { place, next: _ } => place,
+        Next::Nothing => 0,
+    }
+}
+
+// Rules 7 to 22, after the order.
+fn after_order(s: &[u8]) -> Judged
+    requires { ⌜ length (now s) ≤ byteLimit ⌝ }
+    requires { ⌜ 1 ≤ fragmentCount (now s) ⌝ }
+    ensures { λ r. ⌜ saysJudged r (now (s .entry)) (rulesOfHeader (now (s .entry)) then rules14to22 (now (s .entry)) (headerOf (now (s .entry))) 0 0 (fragments (now (s .entry)))) ⌝ }
+{
+    let base = moov_at(s);
+    let ftyp = fields::whole(s, 0);
+    let moov = fields::whole(s, base);
+    match header::check(ftyp, moov, base as u64) {
+        Headed::Good(x) => after_header(s, base as u64, x),
+        Headed::Refused { number, place } => Judged::Refused { number, place },
+    }
+}
+
+// Rules 6 to 22, after the framing.
+fn after_framing(s: &[u8]) -> Judged
+    requires { ⌜ length (now s) ≤ byteLimit ⌝ }
+    ensures { λ r. ⌜ saysJudged r (now (s .entry)) (rule6 (now (s .entry)) then rulesOfHeader (now (s .entry)) then rules14to22 (now (s .entry)) (headerOf (now (s .entry))) 0 0 (fragments (now (s .entry)))) ⌝ }
+{
+    match order::order(s) {
+        Rule::Holds => after_order(s),
+        Rule::Breaks {
+            number,
+            track: _,
+            place,
+        } => Judged::Refused { number, place },
+    }
+}
+
+// Every rule of a track but room.
+pub fn judge(s: &[u8]) -> Judged
+    ensures { λ r. ⌜ saysJudged r (now (s .entry)) (ruling (now (s .entry))) ⌝ }
+{
+    if BYTE_LIMIT < s.len() {
+        return Judged::Refused {
+            number: 1,
+            place: 0,
+        };
+    }
+    match framing::frame(s) {
+        Framing::Framed(_) => after_framing(s),
+        Framing::Misframed { number, place } => Judged::Refused {
+            number,
+            place: place as u64,
+        },
+    }
+}
+
+// A job's refusal: no count, no timescale.
+pub fn refused(number: u64, track: u64, place: u64) -> Verdict
+    ensures { λ r. ⌜ r ≡ record { number = number; track = track; place = place; count = 0; timescale = 0 } ⌝ }
+{
+    Verdict {
+        number,
+        track,
+        place,
+        count: 0,
+        timescale: 0,
+    }
+}
+
+// The boundaries of an accepted track: each start, and the last end, at the front of the table.
+pub fn write_boundaries(s: &[u8], last: u64, t: &mut [u64])
+    requires { ⌜ (last ≡ lastEnd (now s)) × (1 ≤ fragmentCount (now s)) × (fragmentCount (now s) + 1 ≤ length (now t)) ⌝ }
+    ensures { λ _. ⌜ now (t .exit) ≡ boundaries (now (s .entry)) ++ drop (length (boundaries (now (s .entry)))) (now (t .entry)) ⌝ }
+{
+    let mut at: usize = 0;
+    let mut k: usize = 0;
+    loop {
+        let found = boxes::next_of(s, at, MOOF);
+        let Next::At { place, next } = found else {
+            t[k] = last;
+            return;
+        };
+        let moof = fields::whole(s, place);
+        t[k] = fragment::start_of(moof);
+        k += 1;
+        at = next;
+    }
+}
+
+// An accepted track: room, and the boundaries.
+pub fn accept(s: &[u8], f: Facts, t: &mut [u64]) -> Verdict
+    requires { ⌜ Known (now s) f ⌝ }
+    ensures { λ r. ⌜ record { verdict = r; table = now (t .exit) } ≡ roomFor (fragmentCount (now (s .entry))) (timescale (now (s .entry))) (boundaries (now (s .entry))) (now (t .entry)) ⌝ }
+{
+    let n = f.fragments;
+    if (t.len() as u64) <= n {
+        return refused(23, 0, 0);
+    }
+    write_boundaries(s, f.last, t);
+    Verdict {
+        number: 0,
+        track: 0,
+        place: 0,
+        count: n,
+        timescale: f.timescale as u64,
+    }
+}
+
+// The track job: every rule, then room, and the boundaries.
+pub fn track(s: &[u8], t: &mut [u64]) -> Verdict
+    ensures { λ r. ⌜ record { verdict = r; table = now (t .exit) } ≡ trackOutcome (now (s .entry)) (now (t .entry)) ⌝ }
+{
+    match judge(s) {
+        Judged::Refused { number, place } => refused(number, 0, place),
+        Judged::Accepted(f) => accept(s, f, t),
+    }
+}
