@@ -10,17 +10,20 @@ use borrow.Author.Tests.{leb-true}
 use Rattle.numbers.specs.Numbers.{has}
 use Rattle.rules.specs.Limits.{tickLimit}
 use Rattle.rules.specs.Rules.{_then_, must}
-use Rattle.rules.specs.Fragment.{tfhdIn, runsIn, rule16, rule17, rule18, startOf, defaultsIn, durationsOf, durationIn, endOf, bytesIn, firstFlags, syncIn, rule19, rule20, rule21, rule22, rule22runs}
+use Rattle.rules.specs.Fragment.{tfhdIn, runsIn, rule16, rule17, rule18, startOf, defaultsIn, durationIn, endOf, firstFlags, syncIn, rule19, rule20, rule21, rule22}
 use Rattle.rules.specs.declared.Rule.{Rule}
 use Rattle.rules.specs.declared.Rule.the-variants.{Holds}
 use Rattle.rules.specs.declared.Defaults.{Defaults}
 use Rattle.rules.proofs.Then.{then-both, must-holds}
 use Rattle.fragment.specs.Bodies.{Says}
 use Rattle.fragment.specs.Counts.{Stand}
+use Rattle.fragment.specs.Told.{ruleOf}
+use Rattle.fragment.specs.Runs.{Tiles}
 use Rattle.fragment.specs.Layout.{defaultsFrom, defaultsAt}
 use Rattle.fragment.specs.Shape.{settled}
 use Rattle.fragment.specs.declared.bodies.Body.{Body}
 use Rattle.fragment.specs.declared.counts.Moof.{Moof}
+use Rattle.fragment.specs.declared.runs.Tiling.{Tiling}
 use Rattle.fragment.proofs.Standing.{tfhd-is, tfdt-is, run-is}
 
 -- rules 16 to 18
@@ -45,34 +48,29 @@ defaults-are : (m : List ℕ) (d : Defaults) (at : ℕ) → at ≡ tfhdIn m → 
 unfolding defaultsAt defaultsFrom defaultsIn
 defaults-are m d at e = rw e
 
-module _ (base : ℕ) (m : List ℕ) (x : Moof) (st : Stand m x) (start : ℕ) (begins : start ≡ startOf m) where
-  pub rule19-is : (k prev : ℕ) → rule19 base m k prev ≡ must (eqb k 0 || eqb start prev) 19 (base + x .tfdt)
-  unfolding rule19
-  rule19-is k prev = rw (begins, tfdt-is m x st)
+pub rule19-is :
+    (base : ℕ) (m : List ℕ) (x : Moof) → Stand m x → (start : ℕ) → start ≡ startOf m → (k prev : ℕ) →
+    rule19 base m k prev ≡ must (eqb k 0 || eqb start prev) 19 (base + x .tfdt)
+unfolding rule19
+rule19-is base m x st start begins k prev = rw (begins, tfdt-is m x st)
 
-  module _ (d own : Defaults) (rs : List ℕ) (defaults : own ≡ defaultsAt m (x .tfhd) d) (runs : rs ≡ runsIn m) where
-    own-is : own ≡ defaultsIn m d
-    own-is = defaults ∙ defaults-are m d (x .tfhd) (tfhd-is m x st)
+-- rules 20 to 22 by a start, a duration, sizes in all, and what rule 22 says of the offsets
+pub record Span (base : ℕ) (m : List ℕ) (d : Defaults) (run start : ℕ) (own : Defaults) (rs : List ℕ) (ticks bytes head : ℕ) (t : Rule) : Type 0 where
+  pub ends : start + ticks ≡ endOf m d
+  pub twenty : rule20 base m d ≡ must (leb 1 ticks && leb (start + ticks) tickLimit) 20 (base + run)
+  pub twentyone : (f : ℕ) → f ≡ firstFlags m own rs → rule21 base m d ≡ must (not (has f 0x10000)) 21 (base + run)
+  pub twentytwo : (payload : ℕ) → rule22 base m d head payload ≡ (t then must (eqb bytes payload) 22 (base + length m))
 
-    duration-is : (ticks : ℕ) → ticks ≡ durationsOf m own rs → ticks ≡ durationIn m d
-    unfolding durationIn
-    duration-is ticks t = t ∙ rw (own-is, runs)
-
-    pub end-is : (ticks : ℕ) → ticks ≡ durationsOf m own rs → start + ticks ≡ endOf m d
-    unfolding endOf
-    end-is ticks t = omega (arith, begins, duration-is ticks t)
-
-    pub rule20-is :
-        (ticks : ℕ) → ticks ≡ durationsOf m own rs → rule20 base m d ≡ must (leb 1 ticks && leb (start + ticks) tickLimit) 20 (base + x .run)
-    unfolding rule20
-    rule20-is ticks t = rw (end-is ticks t, duration-is ticks t, run-is m x st)
-
-    pub rule21-is : (f : ℕ) → f ≡ firstFlags m own rs → rule21 base m d ≡ must (not (has f 0x10000)) 21 (base + x .run)
-    unfolding rule21 syncIn
-    rule21-is f e = rw (e, own-is, runs, run-is m x st)
-
-    pub rule22-is :
-        (head payload bytes : ℕ) (t : Rule) → t ≡ rule22runs base m own true (length m + head) rs → bytes ≡ bytesIn m own rs →
-        rule22 base m d head payload ≡ (t then must (eqb bytes payload) 22 (base + length m))
-    unfolding rule22
-    rule22-is head payload bytes t e f = rw (e, f, own-is, runs)
+module _ (base : ℕ) (m : List ℕ) (d : Defaults) (x : Moof) (st : Stand m x) (start : ℕ) (begins : start ≡ startOf m) (own : Defaults) (defaults : own ≡ defaultsAt m (x .tfhd) d) (rs : List ℕ) (runs : rs ≡ runsIn m) (head : ℕ) where
+  pub span-is : (t : Tiling) → Tiles base m own (length m + head) rs t → Span base m d (x .run) start own rs (t .ticks) (t .bytes) head (ruleOf (t .tiled))
+  unfolding durationIn endOf rule20 rule21 syncIn rule22
+  span-is t says =
+      let own-is : own ≡ defaultsIn m d = defaults ∙ defaults-are m d (x .tfhd) (tfhd-is m x st) in
+      let lasts : t .ticks ≡ durationIn m d = says .ticks ∙ rw (own-is, runs) in
+      let ends : start + t .ticks ≡ startOf m + durationIn m d = omega (arith, begins, lasts) in
+      record {
+        ends = ends;
+        twenty = rw (ends, lasts, run-is m x st);
+        twentyone = λ f e. rw (e, own-is, runs, run-is m x st);
+        twentytwo = λ payload. rw (says .tiled, says .bytes, own-is, runs);
+      }

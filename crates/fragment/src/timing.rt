@@ -7,7 +7,7 @@ ghost use lib.Dec.{eqb};
 ghost use Rattle.numbers.specs.Numbers.{has};
 ghost use Rattle.rules.specs.Fragment.{timing};
 ghost use Rattle.fragment.specs.Shape.{Good14to18};
-ghost use Rattle.fragment.specs.Timing.{saysEnd, saysFragment};
+ghost use Rattle.fragment.specs.Timing.{rules20to22, saysEnd, saysFragment};
 use crate::Facts;
 use crate::Fragment;
 use crate::layout;
@@ -55,6 +55,35 @@ fn is_sync(flags: u32) -> bool
     !other
 }
 
+// Rules 20 to 22 of a fragment of good shape.
+fn span(m: &[u8], base: u64, head: u64, payload: u64, d: Defaults, s: Shaped) -> Fragment
+    requires { ⌜ (length (now m) ≤ 4294967296) × (base ≤ 4294967296) × (head ≤ 16) ⌝ }
+    requires { ⌜ Good14to18 (now m) s ⌝ }
+    ensures { λ r. ⌜ saysFragment r (rules20to22 base (now (m .entry)) d head payload) (now (m .entry)) d ⌝ }
+{
+    let x = s.boxes;
+    let start = s.start;
+    let own = layout::defaults_at(m, x.tfhd, d);
+    let b = fields::body(m, x.traf);
+    let shift = x.traf + fields::head_of(m, x.traf);
+    let data = m.len() as u64;
+    let all = runs::tile_runs(m, b, shift, base, own, data + head);
+    let place = base + x.run as u64;
+    let last = end_at(start, all.ticks);
+    let End::At(end) = last else {
+        return Fragment::Refused { number: 20, place };
+    };
+    if !is_sync(runs::first_flags(m, b, shift, own)) {
+        return Fragment::Refused { number: 21, place };
+    }
+    let offsets = all.tiled;
+    let tiled = told::first_of(offsets, told::must(all.bytes == payload, 22, base + data));
+    match tiled {
+        Told::Breaks { number, place } => Fragment::Refused { number, place },
+        Told::Holds => Fragment::Good(Facts { start, end }),
+    }
+}
+
 // Rules 19 to 22 of a fragment of good shape.
 pub fn time(
     m: &[u8],
@@ -71,35 +100,11 @@ pub fn time(
     ensures { λ r. ⌜ saysFragment r (timing base (now (m .entry)) d head payload k prev) (now (m .entry)) d ⌝ }
 {
     let x = s.boxes;
-    let start = s.start;
-    if !follows(k, start, prev) {
+    if !follows(k, s.start, prev) {
         return Fragment::Refused {
             number: 19,
             place: base + x.tfdt as u64,
         };
     }
-    let own = layout::defaults_at(m, x.tfhd, d);
-    let b = fields::body(m, x.traf);
-    let shift = x.traf + fields::head_of(m, x.traf);
-    let data = m.len() as u64;
-    let all = runs::tile_runs(m, b, shift, base, own, data + head);
-    let last = end_at(start, all.ticks);
-    let End::At(end) = last else {
-        return Fragment::Refused {
-            number: 20,
-            place: base + x.run as u64,
-        };
-    };
-    if !is_sync(runs::first_flags(m, b, shift, own)) {
-        return Fragment::Refused {
-            number: 21,
-            place: base + x.run as u64,
-        };
-    }
-    let offsets = all.tiled;
-    let tiled = told::first_of(offsets, told::must(all.bytes == payload, 22, base + data));
-    match tiled {
-        Told::Breaks { number, place } => Fragment::Refused { number, place },
-        Told::Holds => Fragment::Good(Facts { start, end }),
-    }
+    span(m, base, head, payload, d, s)
 }

@@ -7,7 +7,7 @@ use lib.ListN.{length}
 use borrow.Author.Needs.{needs}
 use denote.Ref.{now}
 use Rattle.rules.specs.Header.{plain, field}
-use Rattle.rules.specs.Fragment.{flagsOf, runsIn, rule16runs, samplesOf}
+use Rattle.rules.specs.Fragment.{flagsOf, runsIn, rule15, rule15runs, rule16runs, samplesOf}
 use Rattle.rules.proofs.Then.{then-holds, then-breaks, must-true, must-false}
 use Rattle.fragment.specs.Bodies.{timeAt}
 use Rattle.fragment.specs.Runs.{runsAt}
@@ -55,52 +55,49 @@ survey-runs-requires c κs =
     let s = c .before .before .before .before .before .before .before .before .before .before .before .before .before .before .before in
     omega (arith, s .pre .0, s .pre .1 .traf .low, c .before .head-of .ensures .1, ap length (c .before .before .body .ensures), body-low (now (s .args .m)) (s .args .x .traf))
 
-returns-4 : tie.Need-returns-4
-returns-4 c =
-    let v = c .before .before .before in
-    let t = v .before .before .before .before in
+-- the runs in the body of `traf`
+runs : (c : tie.After-survey-runs) → runsAt (now (c .before .before .before .body .result)) (c .before .before .before .before .before .before .before .before .before .before .before .before .before .before .before .before .args .x .traf + c .before .before .head-of .result) 0 ≡ runsIn (now (c .before .before .before .before .before .before .before .before .before .before .before .before .before .before .before .before .args .m))
+runs c =
+    let s = c .before .before .before .before .before .before .before .before .before .before .before .before .before .before .before .before in
+    let n = c .before .before .head-of in
+    runs-are (now (s .args .m)) (s .args .x) (s .pre .1) (now (c .before .before .before .body .result)) (s .args .x .traf + n .result) (c .before .before .before .body .ensures) (ap (λ (y : ℕ). s .args .x .traf + y) (n .ensures .0))
+
+-- rule 15 is that of the runs where the boxes before them are right
+rest : (c : tie.After-survey-runs) → rule15 (c .before .before .before .before .before .before .before .before .before .before .before .before .before .before .before .before .args .base) (now (c .before .before .before .before .before .before .before .before .before .before .before .before .before .before .before .before .args .m)) ≡ rule15runs (c .before .before .before .before .before .before .before .before .before .before .before .before .before .before .before .before .args .base) (now (c .before .before .before .before .before .before .before .before .before .before .before .before .before .before .before .before .args .m)) (runsAt (now (c .before .before .before .body .result)) (c .before .before .before .before .before .before .before .before .before .before .before .before .before .before .before .before .args .x .traf + c .before .before .head-of .result) 0)
+rest c =
+    let t = c .before .before .before .before in
     let k = t .before .before .before .before in
     let e = k .before .before .before .before in
     let s = e .before .before .before .before in
-    let m = now (s .args .m) in
-    let n = v .before .before .head-of in
-    let body = v .before .before .before .body in
-    let shift = s .args .x .traf + n .result in
-    let runs = runs-are m (s .args .x) (s .pre .1) (now (body .result)) shift (body .ensures) (ap (λ (y : ℕ). s .args .x .traf + y) (n .ensures .0)) in
     let h = rw (k .before .tfhd .given .1) at (k .before .before .before .read-tfhd .ensures) in
     let d = rw (t .before .tfdt .given .1) at (t .before .before .before .read-tfdt .ensures) in
-    rule15-is m (s .args .x) (s .pre .1) (s .args .base) (runsAt (now (body .result)) shift 0) runs
+    rule15-is (now (s .args .m)) (s .args .x) (s .pre .1) (s .args .base) _ (runs c)
     ∙ then-holds _ (must-true 15 _ (plain-mfhd e))
     ∙ then-holds _ (must-true 15 _ (h .0))
     ∙ then-holds _ (must-true 15 _ (d .0))
-    ∙ rw (c .before .all .given .1) at (v .survey-runs .ensures)
+
+returns-4 : tie.Need-returns-4
+returns-4 c =
+    let v = c .before .before .before in
+    rest v ∙ rw (c .before .all .given .1) at (v .survey-runs .ensures)
 
 returns-5 : tie.Need-returns-5
 returns-5 c =
     let v = c .before .before .before in
     let t = v .before .before .before .before in
     let k = t .before .before .before .before in
-    let e = k .before .before .before .before in
-    let s = e .before .before .before .before in
+    let s = v .before .before .before .before .before .before .before .before .before .before .before .before .before .before .before .before in
     let m = now (s .args .m) in
-    let n = v .before .before .head-of in
-    let body = v .before .before .before .body in
-    let shift = s .args .x .traf + n .result in
-    let runs = runs-are m (s .args .x) (s .pre .1) (now (body .result)) shift (body .ensures) (ap (λ (y : ℕ). s .args .x .traf + y) (n .ensures .0)) in
     let h = rw (k .before .tfhd .given .1) at (k .before .before .before .read-tfhd .ensures) in
     let d = rw (t .before .tfdt .given .1) at (t .before .before .before .read-tfdt .ensures) in
     let r = rw (c .before .all2 .given .1) at (v .survey-runs .ensures) in (
-      rule15-is m (s .args .x) (s .pre .1) (s .args .base) (runsAt (now (body .result)) shift 0) runs
-          ∙ then-holds _ (must-true 15 _ (plain-mfhd e))
-          ∙ then-holds _ (must-true 15 _ (h .0))
-          ∙ then-holds _ (must-true 15 _ (d .0))
-          ∙ r .0,
+      rest v ∙ r .0,
       record {
         flags = h .1 ∙ ap (flagsOf m) (tfhd-is m (s .args .x) (s .pre .1));
         id = h .2 ∙ ap (λ (y : ℕ). field m y 4) (tfhd-is m (s .args .x) (s .pre .1));
         start = d .1 ∙ ap (timeAt m) (tfdt-is m (s .args .x) (s .pre .1)) ∙ start-is m;
-        clash = r .1 ∙ ap (rule16runs (s .args .base) m) runs;
-        samples = r .2 ∙ ap (samplesOf m) runs;
+        clash = r .1 ∙ ap (rule16runs (s .args .base) m) (runs v);
+        samples = r .2 ∙ ap (samplesOf m) (runs v);
       },
     )
 

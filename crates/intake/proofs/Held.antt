@@ -1,0 +1,16 @@
+-- A law of the bytes held at the start of a buffer.
+use Prim.Native.Nat.{ℕ, _≤_}
+use mathlib.Core.Path.{_≡_, sym, subst}
+use mathlib.Core.List.{List}
+use lib.ListN.{length}
+use lib.Seq.{length-take-le}
+use Rattle.intake.specs.Held.{Within}
+use Rattle.intake.specs.declared.Input.{Input}
+use Rattle.intake.specs.declared.Input.the-variants.{Held}
+
+pub held : (n : ℕ) (xs : List ℕ) → n ≤ length xs → Within (Held n) xs
+held n xs h = (h, sym (length-take-le n xs h))
+
+-- bytes that are held are the front of the buffer
+pub front : (xs : List ℕ) {r : Input} {n : ℕ} → r ≡ Held n → Within r xs → Within (Held n) xs
+front xs e w = subst (λ (i : Input). Within i xs) e w

@@ -1,0 +1,72 @@
+-- `intake::main` is safe and ends. Assumes nothing.
+use borrow.Author.Needs.{needs}
+use Rattle.intake.proofs.Held.{front}
+use Rattle.intake.proofs.main.Statement.{statement}
+use Rattle.intake.proofs.main.Tie as tie
+
+slice-aggregate-read-all : tie.Need-slice-aggregate-read-all
+slice-aggregate-read-all c = search needs
+
+read-all-requires : tie.Need-read-all-requires
+read-all-requires c κs = search needs
+
+enum-known-n : tie.Need-enum-known-n
+enum-known-n c = search needs
+
+enum-told : tie.Need-enum-told
+enum-told c = search needs
+
+slice-aggregate-fail : tie.Need-slice-aggregate-fail
+slice-aggregate-fail c = search needs
+
+fail-requires : tie.Need-fail-requires
+fail-requires c κs = search needs
+
+returns : tie.Need-returns
+returns c = search needs
+
+slice-aggregate-write-all : tie.Need-slice-aggregate-write-all
+slice-aggregate-write-all c = search needs
+
+write-all-requires : tie.Need-write-all-requires
+write-all-requires c κs = search needs
+
+returns-2 : tie.Need-returns-2
+returns-2 c = search needs
+
+array-share-prefix-input : tie.Need-array-share-prefix-input
+array-share-prefix-input c = search needs
+
+slice-aggregate-print-verdict : tie.Need-slice-aggregate-print-verdict
+slice-aggregate-print-verdict c =
+    let b = c .before .before .before in
+    front _ (b .n .given .1) (b .before .before .before .read-all .ensures) .1
+
+slice-aggregate-print-verdict-2 : tie.Need-slice-aggregate-print-verdict-2
+slice-aggregate-print-verdict-2 c = search needs
+
+print-verdict-requires : tie.Need-print-verdict-requires
+print-verdict-requires c κs = search needs
+
+returns-3 : tie.Need-returns-3
+returns-3 c = search needs
+
+pub main-spec : {M : Type 1} → statement M
+main-spec =
+    tie.close
+    (tie.spec
+    slice-aggregate-read-all
+    read-all-requires
+    enum-known-n
+    enum-told
+    slice-aggregate-fail
+    fail-requires
+    returns
+    slice-aggregate-write-all
+    write-all-requires
+    returns-2
+    array-share-prefix-input
+    slice-aggregate-print-verdict
+    slice-aggregate-print-verdict-2
+    print-verdict-requires
+    returns-3)

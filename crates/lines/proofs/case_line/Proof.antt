@@ -1,0 +1,50 @@
+-- `lines::case_line` meets its contract: what is put behind one another is the line. Assumes nothing.
+use native.Mathlib.Omega.{arith}
+use borrow.Author.Needs.{needs}
+use Rattle.lines.proofs.Puts.{then, whole}
+use Rattle.lines.specs.Lines.{caseLine}
+use Rattle.lines.proofs.case_line.Statement.{statement}
+use Rattle.lines.proofs.case_line.Tie as tie
+
+slice-aggregate-put-field : tie.Need-slice-aggregate-put-field
+slice-aggregate-put-field c = search needs
+
+put-field-requires : tie.Need-put-field-requires
+put-field-requires c κs = search needs
+
+put-verdict-requires : tie.Need-put-verdict-requires
+put-verdict-requires c κs = search needs
+
+slice-aggregate-put-field-2 : tie.Need-slice-aggregate-put-field-2
+slice-aggregate-put-field-2 c = search needs
+
+put-field-requires-2 : tie.Need-put-field-requires-2
+put-field-requires-2 c κs = search needs
+
+put-end-requires : tie.Need-put-end-requires
+put-end-requires c κs = search needs
+
+same-length : tie.Need-same-length
+same-length c = search needs
+
+returns : tie.Need-returns
+unfolding caseLine
+returns c =
+    let last = c .before .before in
+    let third = last .before .before .before .before in
+    let second = third .before .before .before .before .before in
+    let first = second .before .before .before .before in
+    whole (then (then (then (first .put-field .ensures .0) (second .put-verdict .ensures .0)) (third .put-field2 .ensures .0)) (last .put-end .ensures)) (omega (arith, last .put-end .ensures .next, third .put-field2 .ensures .1, second .put-verdict .ensures .1, first .put-field .ensures .1))
+
+pub case-line-spec : {M : Type 1} → statement M
+case-line-spec =
+    tie.close
+    (tie.spec
+    slice-aggregate-put-field
+    put-field-requires
+    put-verdict-requires
+    slice-aggregate-put-field-2
+    put-field-requires-2
+    put-end-requires
+    same-length
+    returns)

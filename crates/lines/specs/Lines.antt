@@ -1,0 +1,78 @@
+-- What the programs print, as lists of bytes.
+use Prim.Native.Nat.{ℕ, zero, suc, _+_, _/_, _%_}
+use mathlib.Core.List.{List, [], _∷_, _++_}
+use lib.Dec.{ltb}
+use Rattle.numbers.specs.Numbers.{when}
+use Rattle.rules.specs.declared.Verdict.{Verdict}
+
+-- the digit of a number below 10
+abbrev pub digit : ℕ → ℕ
+digit d = 0x30 + d
+
+-- the decimal digits of a number that has at most so many
+unfoldable pub digits : ℕ → ℕ → List ℕ
+digits zero n = []
+digits (suc k) n = when (ltb n 10) (digit n ∷ []) (digits k (n / 10) ++ (digit (n % 10) ∷ []))
+
+-- the decimal digits of a number, the first not 0 where there are more
+unfoldable pub decimal : ℕ → List ℕ
+decimal n = digits (n + 1) n
+
+-- a text and a number behind it
+abbrev pub field : List ℕ → ℕ → List ℕ
+field text n = text ++ decimal n
+
+-- the line end
+abbrev pub lineEnd : List ℕ
+lineEnd = 0x0a ∷ []
+
+-- `refused `
+abbrev pub refused : List ℕ
+refused = 0x72 ∷ 0x65 ∷ 0x66 ∷ 0x75 ∷ 0x73 ∷ 0x65 ∷ 0x64 ∷ 0x20 ∷ []
+
+-- ` track `
+abbrev pub inTrack : List ℕ
+inTrack = 0x20 ∷ 0x74 ∷ 0x72 ∷ 0x61 ∷ 0x63 ∷ 0x6b ∷ 0x20 ∷ []
+
+-- ` at `
+abbrev pub atPlace : List ℕ
+atPlace = 0x20 ∷ 0x61 ∷ 0x74 ∷ 0x20 ∷ []
+
+-- `accepted tracks `
+abbrev pub accepted : List ℕ
+accepted = 0x61 ∷ 0x63 ∷ 0x63 ∷ 0x65 ∷ 0x70 ∷ 0x74 ∷ 0x65 ∷ 0x64 ∷ 0x20 ∷ 0x74 ∷ 0x72 ∷ 0x61 ∷ 0x63 ∷ 0x6b ∷ 0x73 ∷ 0x20 ∷ []
+
+-- ` fragments `
+abbrev pub ofFragments : List ℕ
+ofFragments = 0x20 ∷ 0x66 ∷ 0x72 ∷ 0x61 ∷ 0x67 ∷ 0x6d ∷ 0x65 ∷ 0x6e ∷ 0x74 ∷ 0x73 ∷ 0x20 ∷ []
+
+-- ` timescale `
+abbrev pub atTimescale : List ℕ
+atTimescale = 0x20 ∷ 0x74 ∷ 0x69 ∷ 0x6d ∷ 0x65 ∷ 0x73 ∷ 0x63 ∷ 0x61 ∷ 0x6c ∷ 0x65 ∷ 0x20 ∷ []
+
+-- a space
+abbrev pub space : List ℕ
+space = 0x20 ∷ []
+
+-- `refused N track T at P`, one line
+unfoldable pub refusedLine : ℕ → ℕ → ℕ → List ℕ
+refusedLine number track place = field refused number ++ field inTrack track ++ field atPlace place ++ lineEnd
+
+-- `accepted tracks N fragments F timescale Z`, one line
+unfoldable pub acceptedLine : ℕ → ℕ → ℕ → List ℕ
+acceptedLine tracks fragments timescale =
+    field accepted tracks ++ field ofFragments fragments ++ field atTimescale timescale ++ lineEnd
+
+-- a number alone, one line
+unfoldable pub tickLine : ℕ → List ℕ
+tickLine tick = decimal tick ++ lineEnd
+
+-- a verdict's five numbers, a space before each
+unfoldable pub spaced : Verdict → List ℕ
+spaced v =
+    field space (v .number) ++ field space (v .track) ++ field space (v .place) ++ field space (v .count)
+    ++ field space (v .timescale)
+
+-- `job number track place count timescale sum`, one line
+unfoldable pub caseLine : ℕ → Verdict → ℕ → List ℕ
+caseLine job v sum = decimal job ++ spaced v ++ field space sum ++ lineEnd

@@ -1,0 +1,115 @@
+// What the programs print, as lines in a lent buffer.
+use rules::Verdict;
+ghost use mathlib.Core.List.{_∷_, []};
+ghost use Prim.Native.Nat.{_+_, _≤_, _<_};
+ghost use lib.ListN.{length};
+ghost use Rattle.lines.specs.Lines.{digit, decimal, field, lineEnd, acceptedLine, refusedLine, tickLine, spaced, caseLine};
+ghost use Rattle.lines.specs.Puts.{Put, Line};
+
+// Puts the digit of a number below 10 at a place, and answers the next place.
+fn put_digit(d: u64, at: usize, out: &mut [u8]) -> usize
+    requires { ⌜ (d < 10) × (at < length (now out)) ⌝ }
+    ensures { λ r. ⌜ Put (now (out .entry)) at (digit d ∷ []) r (now (out .exit)) ⌝ }
+{
+    out[at] = 48 + d as u8;
+    at + 1
+}
+
+// Puts a number's decimal digits at a place, and answers the place behind them.
+fn put_number(n: u64, at: usize, out: &mut [u8]) -> usize
+    requires { ⌜ at + length (decimal n) ≤ length (now out) ⌝ }
+    ensures { λ r. ⌜ Put (now (out .entry)) at (decimal n) r (now (out .exit)) ⌝ }
+{
+    if n < 10 {
+        return put_digit(n, at, out);
+    }
+    let last = put_number(n / 10, at, out);
+    put_digit(n % 10, last, out)
+}
+
+// Puts a text at a place, and answers the place behind it.
+fn put_text(text: &[u8], at: usize, out: &mut [u8]) -> usize
+    requires { ⌜ at + length (now text) ≤ length (now out) ⌝ }
+    ensures { λ r. ⌜ Put (now (out .entry)) at (now (text .entry)) r (now (out .exit)) ⌝ }
+{
+    let mut i = 0;
+    while i < text.len() {
+        out[at + i] = text[i];
+        i += 1;
+    }
+    at + i
+}
+
+// Puts a text and a number behind it at a place, and answers the place behind them.
+fn put_field(text: &[u8], n: u64, at: usize, out: &mut [u8]) -> usize
+    requires { ⌜ at + length (now text) + 20 ≤ length (now out) ⌝ }
+    ensures { λ r. ⌜ Put (now (out .entry)) at (field (now (text .entry)) n) r (now (out .exit)) ⌝ }
+    ensures { λ r. ⌜ r ≤ at + length (now (text .entry)) + 20 ⌝ }
+{
+    let next = put_text(text, at, out);
+    put_number(n, next, out)
+}
+
+// Puts the line end at a place, and answers the place behind it.
+fn put_end(at: usize, out: &mut [u8]) -> usize
+    requires { ⌜ at < length (now out) ⌝ }
+    ensures { λ r. ⌜ Put (now (out .entry)) at lineEnd r (now (out .exit)) ⌝ }
+{
+    out[at] = 10;
+    at + 1
+}
+
+// The line of a refused set, at the start of the buffer; answers its length.
+pub fn refused_line(number: u64, track: u64, place: u64, out: &mut [u8]) -> usize
+    requires { ⌜ 128 ≤ length (now out) ⌝ }
+    ensures { λ r. ⌜ Line (refusedLine number track place) (now (out .entry)) r (now (out .exit)) ⌝ }
+{
+    let a = put_field(b"refused ", number, 0, out);
+    let b = put_field(b" track ", track, a, out);
+    let c = put_field(b" at ", place, b, out);
+    put_end(c, out)
+}
+
+// The line of an accepted set, at the start of the buffer; answers its length.
+pub fn accepted_line(tracks: u64, fragments: u64, timescale: u64, out: &mut [u8]) -> usize
+    requires { ⌜ 128 ≤ length (now out) ⌝ }
+    ensures { λ r. ⌜ Line (acceptedLine tracks fragments timescale) (now (out .entry)) r (now (out .exit)) ⌝ }
+{
+    let a = put_field(b"accepted tracks ", tracks, 0, out);
+    let b = put_field(b" fragments ", fragments, a, out);
+    let c = put_field(b" timescale ", timescale, b, out);
+    put_end(c, out)
+}
+
+// The line of a boundary, at the start of the buffer; answers its length.
+pub fn tick_line(tick: u64, out: &mut [u8]) -> usize
+    requires { ⌜ 128 ≤ length (now out) ⌝ }
+    ensures { λ r. ⌜ Line (tickLine tick) (now (out .entry)) r (now (out .exit)) ⌝ }
+{
+    let a = put_field(b"", tick, 0, out);
+    put_end(a, out)
+}
+
+// Puts the five numbers of a verdict, a space before each, at a place, and answers the place behind them.
+fn put_verdict(v: Verdict, at: usize, out: &mut [u8]) -> usize
+    requires { ⌜ at + 105 ≤ length (now out) ⌝ }
+    ensures { λ r. ⌜ Put (now (out .entry)) at (spaced v) r (now (out .exit)) ⌝ }
+    ensures { λ r. ⌜ r ≤ at + 105 ⌝ }
+{
+    let a = put_field(b" ", v.number, at, out);
+    let b = put_field(b" ", v.track, a, out);
+    let c = put_field(b" ", v.place, b, out);
+    let d = put_field(b" ", v.count, c, out);
+    put_field(b" ", v.timescale, d, out)
+}
+
+// The line of a test case, at the start of the buffer; answers its length.
+pub fn case_line(job: u64, v: Verdict, sum: u64, out: &mut [u8]) -> usize
+    requires { ⌜ 160 ≤ length (now out) ⌝ }
+    ensures { λ r. ⌜ Line (caseLine job v sum) (now (out .entry)) r (now (out .exit)) ⌝ }
+{
+    let a = put_field(b"", job, 0, out);
+    let b = put_verdict(v, a, out);
+    let c = put_field(b" ", sum, b, out);
+    put_end(c, out)
+}

@@ -1,0 +1,89 @@
+// Reads test cases from standard input to its end, and prints a line for each: the job, its verdict, and a sum over the
+// table after it. A case: a byte for the job (0 index, 1 track, 2 set), four bytes for the table's room, four bytes for
+// the length, and that many bytes.
+use libc::STDIN_FILENO;
+use libc::STDOUT_FILENO;
+use rules::Verdict;
+ghost use mathlib.Core.Path.{_≡_};
+ghost use lib.ListN.{length};
+ghost use Rattle.vectors.specs.Tables.{Filled, sumOf};
+
+// Fills a table with i * 7 + 1 at each i.
+fn fill(t: &mut [u64])
+    ensures { λ _. ⌜ Filled (now (t .exit)) (length (now (t .entry))) ⌝ }
+{
+    let mut i = 0;
+    while i < t.len() {
+        t[i] = i as u64 * 7 + 1;
+        i += 1;
+    }
+}
+
+// The sum over a table, h = (h * 31 + t[i]) mod 1000000007 from 0.
+fn sum_of(t: &[u64]) -> u64
+    ensures { λ r. ⌜ r ≡ sumOf (length (now (t .entry))) (now (t .entry)) ⌝ }
+{
+    let mut h = 0;
+    let mut i = 0;
+    while i < t.len() {
+        h = (h * 31 + t[i] % 1000000007) % 1000000007;
+        i += 1;
+    }
+    h
+}
+
+// The verdict of a job.
+fn run(job: u8, s: &[u8], t: &mut [u64]) -> Verdict {
+    if job == 0 {
+        return framing::index(s, t);
+    }
+    if job == 1 {
+        return track::track(s, t);
+    }
+    set::check(s, t)
+}
+
+// Runs a case and prints its line.
+fn print_case(job: u8, s: &[u8], t: &mut [u64]) {
+    fill(t);
+    let v = run(job, s, t);
+    let mut line = [0u8; 160];
+    let n = lines::case_line(job as u64, v, sum_of(t), &mut line);
+    io::write_all(STDOUT_FILENO, &line[..n]);
+}
+
+// Reads a case and prints its line; answers whether there was a whole one.
+fn next_case(bytes: &mut [u8], table: &mut [u64]) -> bool {
+    let mut head = [0u8; 9];
+    if io::read_full(STDIN_FILENO, &mut head) < 9 {
+        return false;
+    }
+    let room = numbers::be4(&head, 1) as usize;
+    let size = numbers::be4(&head, 5) as usize;
+    if table.len() < room {
+        return false;
+    }
+    if bytes.len() < size {
+        return false;
+    }
+    if io::read_full(STDIN_FILENO, &mut bytes[..size]) < size {
+        return false;
+    }
+    print_case(head[0], &bytes[..size], &mut table[..room]);
+    true
+}
+
+// Runs every case to the end of the input. A proved loop has to end, and nothing says that an input does: the loop counts
+// its turns down, from a number that no run uses up.
+fn run_cases(bytes: &mut [u8], table: &mut [u64]) {
+    let mut turns = u64::MAX;
+    while turns > 0 && next_case(bytes, table) {
+        turns -= 1;
+    }
+}
+
+fn main() {
+    let mut bytes = [0u8; 65536];
+    let mut table = [0u64; 4096];
+    run_cases(&mut bytes, &mut table);
+}
