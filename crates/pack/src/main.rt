@@ -1,0 +1,214 @@
+// Writes a bundle of the files that its arguments name to standard output: for each a record of the mark, the length and
+// the bytes. Every file is read to its end and counted before a byte is written. So where a name is missing or one too
+// many, a file can't be read or the bundle would be too long, there is a line on standard error and nothing on standard
+// output. A file that has grown since it was counted gives the bytes that were counted. At one that has become shorter the
+// bundle ends inside its record, which a check refuses with 24, and there is a line on standard error.
+use libc::SEEK_SET;
+use libc::STDERR_FILENO;
+use libc::STDOUT_FILENO;
+ghost use Prim.Native.Nat.{_+_, _≤_};
+ghost use lib.ListN.{length};
+ghost use Rattle.pack.specs.Sizes.{Counted, Readied};
+
+// The bytes that a bundle may have.
+const LIMIT: u64 = 1073741824;
+
+// What counting a file found: its bytes, that the bundle would be too long, or that it can't be read.
+enum Size {
+    Bytes(u64),
+    Over,
+    Unread,
+}
+
+// A file made ready: its descriptor, at its start, and its bytes.
+enum File {
+    Ready(i32, u32),
+    Refused,
+}
+
+// Counts the bytes of a file that begins at a place of the bundle.
+fn count_bytes(fd: i32, from: u64, buf: &mut [u8]) -> Size
+    requires { ⌜ from ≤ 1073741830 ⌝ }
+    ensures { λ r. ⌜ Counted r from ⌝ }
+{
+    let mut end = from;
+    while end <= LIMIT {
+        let got = libc::read(fd, buf);
+        if got < 0 {
+            return Size::Unread;
+        }
+        let n = io::count(got, buf);
+        if n == 0 {
+            return Size::Bytes(end - from);
+        }
+        end += n as u64;
+    }
+    Size::Over
+}
+
+// Counts the bytes of an open file of that name and goes back to its start; says why where it can't.
+fn ready(fd: i32, path: &[u8], from: u64, buf: &mut [u8]) -> File
+    requires { ⌜ from ≤ 1073741830 ⌝ }
+    ensures { λ r. ⌜ Readied r from ⌝ }
+{
+    let size = count_bytes(fd, from, buf);
+    match size {
+        Size::Bytes(n) => {
+            if libc::lseek(fd, 0, SEEK_SET) != 0 {
+                os::fail(path);
+                return File::Refused;
+            }
+            File::Ready(fd, n as u32)
+        }
+        Size::Over => {
+            io::write_all(STDERR_FILENO, path);
+            io::write_all(
+                STDERR_FILENO,
+                b": the bundle would be over 1073741824 bytes\n",
+            );
+            File::Refused
+        }
+        Size::Unread => {
+            os::fail(path);
+            File::Refused
+        }
+    }
+}
+
+// Makes the file that argument i names ready for a place of the bundle; says why where it can't.
+fn prepare(i: usize, from: u64, buf: &mut [u8]) -> File
+    requires { ⌜ from ≤ 1073741830 ⌝ }
+    ensures { λ r. ⌜ Readied r from ⌝ }
+{
+    let mut path = io::buffer();
+    let n = os::arg(i, &mut path);
+    if os::errno() != 0 {
+        os::fail(b"file name");
+        return File::Refused;
+    }
+    let fd = os::open_read(&path[..n]);
+    if fd < 0 {
+        os::fail(&path[..n]);
+        return File::Refused;
+    }
+    ready(fd, &path[..n], from, buf)
+}
+
+// Makes the files of the arguments 1 to so many ready, with their descriptors and bytes; answers whether all are.
+fn open_all(files: usize, fds: &mut [i32], sizes: &mut [u32], buf: &mut [u8]) -> bool
+    requires { ⌜ (files ≤ length (now fds)) × (files ≤ length (now sizes)) ⌝ }
+{
+    let mut end = 0;
+    let mut k = 0;
+    while k < files {
+        let from = end + 6;
+        let File::Ready(fd, size) = prepare(k + 1, from, buf) else {
+            return false;
+        };
+        fds[k] = fd;
+        sizes[k] = size;
+        end = from + size as u64;
+        k += 1;
+    }
+    true
+}
+
+// The smaller of two numbers.
+fn least(a: u64, b: usize) -> usize
+    ensures { λ r. ⌜ (r ≤ a) × (r ≤ b) ⌝ }
+{
+    if a < b as u64 { a as usize } else { b }
+}
+
+// Reads once into a buffer and writes what came; answers how many bytes, 0 where none came or were written.
+fn pass(fd: i32, buf: &mut [u8]) -> usize
+    ensures { λ r. ⌜ r ≤ length (now (buf .entry)) ⌝ }
+{
+    let got = libc::read(fd, buf);
+    if got < 0 {
+        os::fail(b"a file, read again");
+        return 0;
+    }
+    let n = io::count(got, buf);
+    if n == 0 {
+        io::write_all(
+            STDERR_FILENO,
+            b"a file became shorter: the bundle ends inside its record\n",
+        );
+        return 0;
+    }
+    if !io::write_all(STDOUT_FILENO, &buf[..n]) {
+        os::fail(b"standard output");
+        return 0;
+    }
+    n
+}
+
+// Passes on at most so many bytes; answers how many.
+fn pass_some(fd: i32, most: u64, buf: &mut [u8]) -> u64
+    ensures { λ r. ⌜ r ≤ most ⌝ }
+{
+    let k = least(most, buf.len());
+    pass(fd, &mut buf[..k]) as u64
+}
+
+// Copies so many bytes of a file to standard output; answers whether all were copied.
+fn copy(fd: i32, size: u32, buf: &mut [u8]) -> bool {
+    let mut left = size as u64;
+    while 0 < left {
+        let n = pass_some(fd, left, buf);
+        if n == 0 {
+            return false;
+        }
+        left -= n;
+    }
+    true
+}
+
+// Writes the record of a file; answers whether the whole of it was written.
+fn write_record(fd: i32, size: u32, buf: &mut [u8]) -> bool {
+    let head = record::header(size);
+    if !io::write_all(STDOUT_FILENO, &head) {
+        os::fail(b"standard output");
+        return false;
+    }
+    copy(fd, size, buf)
+}
+
+// Writes the records of the first so many files, up to one that can't be written whole.
+fn write_records(files: usize, fds: &[i32], sizes: &[u32], buf: &mut [u8])
+    requires { ⌜ (files ≤ length (now fds)) × (files ≤ length (now sizes)) ⌝ }
+{
+    let mut k = 0;
+    while k < files {
+        if !write_record(fds[k], sizes[k], buf) {
+            return;
+        }
+        k += 1;
+    }
+}
+
+// Makes 1 to 16 files ready, then writes their records.
+fn pack(files: usize, fds: &mut [i32], sizes: &mut [u32], buf: &mut [u8])
+    requires { ⌜ (files ≤ length (now fds)) × (files ≤ length (now sizes)) ⌝ }
+{
+    if open_all(files, fds, sizes, buf) {
+        write_records(files, fds, sizes, buf);
+    }
+}
+
+fn main() {
+    let words = os::arg_count();
+    if words < 2 {
+        io::write_all(STDERR_FILENO, b"pack: name 1 to 16 files\n");
+        return;
+    }
+    if 17 < words {
+        io::write_all(STDERR_FILENO, b"pack: name 1 to 16 files, no more\n");
+        return;
+    }
+    let mut fds = [0i32; 16];
+    let mut sizes = [0u32; 16];
+    let mut buf = [0u8; 65536];
+    pack(words - 1, &mut fds, &mut sizes, &mut buf);
+}
