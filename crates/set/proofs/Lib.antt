@@ -2,3 +2,5 @@ pub mod Records
 pub mod Beside
 pub mod Following
 pub mod Outcomes
+pub mod Unique
+pub mod Dummies

@@ -3,3 +3,6 @@ pub mod Fragments
 pub mod Judging
 pub mod Stages
 pub mod Table
+pub mod Jobs
+pub mod Unique
+pub mod Dummies

@@ -1,0 +1,52 @@
+-- Jobs that the contract of the set check shuts out: for each there is an input on which what it answers is not permitted.
+use Prim.Native.Nat.{ℕ}
+use mathlib.Core.List.{List, [], _∷_, _++_}
+use mathlib.Core.Path.{_≡_, refl, ap}
+use lib.Dec.{eqb}
+use lib.ListN.{length, getD}
+use Rattle.rules.specs.Bytes.{in4, trackT}
+use Rattle.rules.specs.Computed.{computed}
+use Rattle.rules.specs.Examples.{nines, refusal, acceptance}
+use Rattle.rules.specs.Track.{Outcome, accepted}
+use Rattle.rules.specs.Set.{setOutcome}
+use Rattle.track.specs.Jobs.{Job, Shut, Dummy, Shown}
+use Rattle.track.proofs.Jobs.{shut}
+use Rattle.track.proofs.Dummies.{half}
+
+-- a track as a record, and a bundle of one track twice
+unfoldable recordOf : List ℕ → List ℕ
+recordOf s = 0x53 ∷ 0x57 ∷ in4 (length s) ++ s
+
+unfoldable twice : List ℕ → List ℕ
+twice s = recordOf s ++ recordOf s
+
+T-twice-is : setOutcome (twice trackT) nines ≡ acceptance
+unfolding computed recordOf twice acceptance
+T-twice-is = refl
+
+half-twice-is : setOutcome (twice half) nines ≡ accepted 1 90000 (0 ∷ 180000 ∷ []) nines
+unfolding computed recordOf twice half
+half-twice-is = refl
+
+none-is : setOutcome [] nines ≡ refusal 24 0
+unfolding computed refusal
+none-is = refl
+
+shown : Shown setOutcome
+unfolding computed recordOf twice half acceptance refusal
+shown =
+    record {
+      good = twice trackT;
+      other = twice half;
+      bad = [];
+      lent = nines;
+      accepts = ap (λ (o : Outcome). o .verdict .number) T-twice-is;
+      writes = ap (λ (o : Outcome). eqb (getD (o .table) 0 0) 9) T-twice-is;
+      counts = ap (λ (o : Outcome). eqb (o .verdict .count) 2) half-twice-is;
+      as-long = refl;
+      refuses = ap (λ (o : Outcome). eqb (o .verdict .number) 0) none-is;
+    }
+
+-- each dummy answers what is not permitted
+pub dummies : (job : Job) → Dummy job → Shut setOutcome job
+dummies = shut setOutcome shown

@@ -1,0 +1,47 @@
+-- Jobs that the contract of the track check shuts out: for each there is an input on which what it answers is not permitted.
+use Prim.Native.Nat.{ℕ}
+use mathlib.Core.List.{List, [], _∷_, _++_}
+use mathlib.Core.Path.{_≡_, refl, ap}
+use lib.Dec.{eqb}
+use lib.ListN.{getD}
+use Rattle.rules.specs.Bytes.{zeros, boxed, header, fragment, trackT}
+use Rattle.rules.specs.Computed.{computed}
+use Rattle.rules.specs.Examples.{free, nines, refusal, acceptance}
+use Rattle.rules.specs.Track.{Outcome, accepted, trackOutcome}
+use Rattle.track.specs.Jobs.{Job, Shut, Dummy, Shown}
+use Rattle.track.proofs.Jobs.{shut}
+
+-- T's first fragment alone, with a `free` box as long as the second
+unfoldable pub half : List ℕ
+half = header ++ fragment 0 108 30 ++ boxed free (zeros 130)
+
+T-is : trackOutcome trackT nines ≡ acceptance
+unfolding computed acceptance
+T-is = refl
+
+half-is : trackOutcome half nines ≡ accepted 1 90000 (0 ∷ 180000 ∷ []) nines
+unfolding computed half
+half-is = refl
+
+none-is : trackOutcome [] nines ≡ refusal 6 0
+unfolding computed refusal
+none-is = refl
+
+shown : Shown trackOutcome
+unfolding computed half acceptance refusal
+shown =
+    record {
+      good = trackT;
+      other = half;
+      bad = [];
+      lent = nines;
+      accepts = ap (λ (o : Outcome). o .verdict .number) T-is;
+      writes = ap (λ (o : Outcome). eqb (getD (o .table) 0 0) 9) T-is;
+      counts = ap (λ (o : Outcome). eqb (o .verdict .count) 2) half-is;
+      as-long = refl;
+      refuses = ap (λ (o : Outcome). eqb (o .verdict .number) 0) none-is;
+    }
+
+-- each dummy answers what is not permitted
+pub dummies : (job : Job) → Dummy job → Shut trackOutcome job
+dummies = shut trackOutcome shown
