@@ -1,0 +1,213 @@
+//! Track T, and rules 14 to 22.
+
+use super::{first_run, track_t, List};
+use crate::layout::{steps, steps_in_fragment, trun, CONTAINERS, HEADER_CONTAINERS};
+use crate::node;
+use crate::track::{Fragment, Run, Track, NON_SYNC};
+
+impl List {
+    /// The paper's own examples with T.
+    pub fn track_t(&mut self) {
+        let second_tfdt = steps_in_fragment("moof/traf/tfdt", 1);
+        let first_trun = trun(0, 0);
+        self.accepted("T", |_| ());
+        self.refused("T, second tfdt 180001", 19, &second_tfdt, |t| t.fragments[1].start += 1);
+        self.refused("T, second tfdt 179999", 19, &second_tfdt, |t| t.fragments[1].start -= 1);
+        for (name, error) in [("107", -1), ("109", 1), ("-108", -216)] {
+            self.refused(&format!("T, data offset {name}"), 22, &first_trun, |t| {
+                first_run(t).offset_error = error;
+            });
+        }
+        self.boxes_refused("T, a spare byte in mdat", 22, &steps("mdat"), |boxes| {
+            boxes[3].body().push(0);
+        });
+        self.boxes_refused("T, the last mdat a byte short", 22, &[(*b"mdat", 1)], |boxes| {
+            boxes[5].body().pop();
+        });
+        self.accepted("the last tick", |t| start_late(t, 0));
+        self.refused("a tick after the last", 20, &first_trun, |t| start_late(t, 1));
+        self.refused("an end at 2^64", 20, &first_trun, |t| start_late(t, (1 << 63) + 1));
+        let traf = steps("moof/traf");
+        self.accepted("65536 samples", |t| many_samples(t, &[65_536]));
+        self.refused("65537 samples", 18, &traf, |t| many_samples(t, &[65_537]));
+        self.accepted("65536 samples in two runs", |t| many_samples(t, &[1, 65_535]));
+        self.refused("65537 samples in two runs", 18, &traf, |t| many_samples(t, &[2, 65_535]));
+        self.refused("2^32 + 2 samples", 18, &traf, |t| many_samples(t, &[3, u32::MAX]));
+        self.refused("no sample", 18, &traf, |t| many_samples(t, &[0, 0]));
+    }
+
+    /// Rules 14 to 22 beyond those.
+    pub fn fragments(&mut self) {
+        self.fragment_counts();
+        self.fragment_bodies();
+        self.fragment_flags();
+        self.refused("duration 0", 20, &trun(0, 0), |t| {
+            first_run(t).samples.iter_mut().for_each(|sample| sample.duration = 0);
+        });
+        self.accepted("a 32-bit tfdt at its last tick", |t| {
+            t.fragments[0].start = u64::from(u32::MAX);
+            t.fragments.truncate(1);
+        });
+        self.refused(
+            "a 32-bit tfdt after 2^32",
+            19,
+            &steps_in_fragment("moof/traf/tfdt", 1),
+            |t| {
+                t.fragments[0].start = u64::from(u32::MAX);
+                t.fragments[1].start = u64::from(u32::MAX) + 180_000;
+            },
+        );
+        self.sync();
+        self.tiling();
+    }
+
+    /// Rule 14.
+    fn fragment_counts(&mut self) {
+        let t = track_t();
+        for container in &CONTAINERS[HEADER_CONTAINERS..] {
+            let path = steps(container.path);
+            for &&kind in container.counted {
+                let name = String::from_utf8_lossy(&kind);
+                self.boxes_refused(&format!("no {name}"), 14, &path, |boxes| {
+                    node::inside(boxes, &path).retain(|node| node.kind != kind);
+                });
+                let counted = [&path[..], &[(kind, 0)]].concat();
+                let present = node::find(&t, &counted).expect("T has it");
+                let second = [&path[..], &[(kind, 1)]].concat();
+                if kind != *b"trun" {
+                    self.boxes_refused(&format!("second {name}"), 14, &second, |boxes| {
+                        node::inside(boxes, &path).push(present.clone());
+                    });
+                }
+            }
+        }
+    }
+
+    /// Rule 15.
+    fn fragment_bodies(&mut self) {
+        for target in ["moof/mfhd", "moof/traf/tfhd", "moof/traf/tfdt", "moof/traf/trun"] {
+            let path = steps(target);
+            self.boxes_refused(&format!("{target} a byte longer"), 15, &path, |boxes| {
+                node::at(boxes, &path).body().push(0);
+            });
+            self.boxes_refused(&format!("{target} a byte shorter"), 15, &path, |boxes| {
+                node::at(boxes, &path).body().pop();
+            });
+            self.boxes_refused(&format!("{target} of version 2"), 15, &path, |boxes| {
+                node::at(boxes, &path).body()[0] = 2;
+            });
+        }
+        let wrapped = [1 << 29, 1 << 30, 1 << 31].map(|more| 2 + more);
+        for count in [1, 3].into_iter().chain(wrapped) {
+            self.boxes_refused(&format!("trun of {count} samples"), 15, &trun(0, 0), |boxes| {
+                node::at(boxes, &trun(0, 0)).put_u32(4, count);
+            });
+        }
+        self.accepted("trun of version 1", |t| first_run(t).version = 1);
+        self.accepted("composition offsets", |t| first_run(t).flags |= 0x800);
+        self.accepted("all fields of tfhd", |t| t.fragments[0].tfhd_flags |= 0x3A);
+        self.accepted("flags that no rule names", |t| {
+            t.fragments[0].tfhd_flags |= 0xFC_FFC4;
+            first_run(t).flags |= 0xFF_F0FA;
+        });
+    }
+
+    /// Rules 16 and 17.
+    fn fragment_flags(&mut self) {
+        let tfhd = steps("moof/traf/tfhd");
+        for flags in [0x02_0001, 0x03_0000, 0] {
+            let name = format!("tfhd flags {flags:#x}");
+            self.refused(&name, 16, &tfhd, |t| t.fragments[0].tfhd_flags = flags);
+        }
+        self.refused("flags twice in a run", 16, &trun(1, 0), |t| {
+            t.fragments[1].runs[0].flags |= 0x404;
+        });
+        self.boxes_refused("other track ID in tfhd", 17, &tfhd, |boxes| {
+            node::at(boxes, &tfhd).put_u32(4, 2);
+        });
+    }
+
+    /// Rule 21: each source of the first sample's flags.
+    fn sync(&mut self) {
+        let first_trun = trun(0, 0);
+        self.refused("non-sync by trex", 21, &first_trun, |t| t.trex.flags = NON_SYNC);
+        let by_tfhd = |t: &mut Track| {
+            t.fragments[0].tfhd_flags |= 0x20;
+            t.fragments[0].tfhd.flags = NON_SYNC;
+        };
+        self.refused("non-sync by tfhd", 21, &first_trun, by_tfhd);
+        self.refused("non-sync by the run", 21, &first_trun, |t| {
+            first_run(t).flags |= 0x400;
+            first_run(t).samples[0].flags = NON_SYNC;
+        });
+        self.refused("non-sync by first-sample flags", 21, &first_trun, |t| {
+            first_run(t).flags |= 0x4;
+            first_run(t).first_sample_flags = NON_SYNC;
+        });
+        self.accepted("sync by first-sample flags", |t| {
+            by_tfhd(t);
+            first_run(t).flags |= 0x4;
+        });
+        self.accepted("sync by tfhd against trex", |t| {
+            t.trex.flags = NON_SYNC;
+            t.fragments.iter_mut().for_each(|fragment| fragment.tfhd_flags |= 0x20);
+        });
+        self.accepted("a second sample may be non-sync", |t| {
+            first_run(t).flags |= 0x400;
+            first_run(t).samples[1].flags = NON_SYNC;
+        });
+        let empty = || Run { flags: 0x5, first_sample_flags: NON_SYNC, ..plain_run(0) };
+        self.accepted("non-sync flags of an empty run", |t| {
+            t.fragments[0].runs.insert(0, empty());
+        });
+        self.refused("non-sync after an empty run", 21, &first_trun, |t| {
+            t.trex.flags = NON_SYNC;
+            t.fragments[0].runs.insert(0, plain_run(0));
+        });
+    }
+
+    /// Rule 22 with several runs.
+    fn tiling(&mut self) {
+        self.refused("no offset in the first run", 22, &trun(0, 0), |t| first_run(t).flags = 0x300);
+        self.refused("no offset in an empty first run", 22, &trun(0, 0), |t| {
+            t.fragments[0].runs.insert(0, Run { flags: 0, ..plain_run(0) });
+        });
+        self.accepted("an empty first run", |t| t.fragments[0].runs.insert(0, plain_run(0)));
+        self.accepted("second run without offset", |t| two_runs(t, 0x300));
+        self.accepted("second run with offset", |t| two_runs(t, 0x301));
+        self.refused("second run a byte off", 22, &trun(0, 1), |t| {
+            two_runs(t, 0x301);
+            t.fragments[0].runs[1].offset_error = 1;
+        });
+        self.refused("an empty last run a byte off", 22, &trun(0, 1), |t| {
+            t.fragments[0].runs.push(Run { offset_error: -1, ..plain_run(0) });
+        });
+    }
+}
+
+/// A run of samples that carry nothing of their own.
+fn plain_run(count: u32) -> Run {
+    Run { version: 0, flags: 0x1, count, first_sample_flags: 0, samples: vec![], offset_error: 0 }
+}
+
+/// One fragment that ends so many ticks after the last one allowed.
+fn start_late(track: &mut Track, beyond: u64) {
+    track.fragments.truncate(1);
+    let fragment = &mut track.fragments[0];
+    fragment.wide_tfdt = true;
+    fragment.start = (1 << 63) - 1 - 180_000 + beyond;
+}
+
+/// One fragment with runs of so many samples, a tick and no byte each.
+fn many_samples(track: &mut Track, counts: &[u32]) {
+    track.trex.duration = 1;
+    let runs = counts.iter().map(|count| plain_run(*count)).collect();
+    track.fragments = vec![Fragment { runs, ..track.fragments[0].clone() }];
+}
+
+/// A second run like the first in the first fragment, which now lasts twice as long.
+fn two_runs(track: &mut Track, flags: u32) {
+    let second = Run { flags, ..first_run(track).clone() };
+    track.fragments[0].runs.push(second);
+    track.fragments[1].start *= 2;
+}

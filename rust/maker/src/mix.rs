@@ -1,0 +1,174 @@
+//! The mix of cases that the checks are tried on: good, damaged with aim, damaged blindly.
+
+use crate::blind;
+use crate::bundle::{bundle, record};
+use crate::cases::{Answer, Case, Job};
+use crate::damage::framing::{crowd, MAX_BOXES};
+use crate::damage::set::{bad_bundle, differing};
+use crate::damage::{aimed, Damaged, TRACK_NUMBERS};
+use crate::decorate::good;
+use crate::draw::Plan;
+use crate::layout::steps;
+use crate::node;
+use crate::rng::Rng;
+use crate::soup::soup;
+
+/// Draws a case of this job.
+pub fn draw(job: Job, rng: &mut Rng) -> Case {
+    let (mut bytes, mut expected) = match job {
+        Job::Index => index(rng),
+        Job::Track => track(rng),
+        Job::Set => set(rng),
+    };
+    if rng.chance(20) {
+        blind::damage(&mut bytes, rng);
+        expected = None;
+    }
+    Case { job, bytes, expected }
+}
+
+type Drawn = (Vec<u8>, Option<Answer>);
+
+fn refused(number: u64, damaged: &Damaged) -> Answer {
+    Answer::refused(number, damaged.place)
+}
+
+fn index(rng: &mut Rng) -> Drawn {
+    let plan = Plan::draw(rng);
+    if rng.chance(40) {
+        let number = rng.pick(&[2, 2, 3, 3, 4, 4, 5]);
+        let damaged = aimed(number, &plan, rng);
+        return (node::bytes(&damaged.boxes), Some(refused(number, &damaged)));
+    }
+    let mut boxes = if rng.chance(50) { soup("", rng) } else { good(&plan, rng) };
+    if rng.chance(3) {
+        crowd(&mut boxes, MAX_BOXES, rng);
+    }
+    (node::bytes(&boxes), Some(Answer::listed(node::rows(&boxes))))
+}
+
+fn accepted(plan: &Plan) -> Answer {
+    Answer::accepted(plan.timescale, plan.boundaries.clone())
+}
+
+fn track(rng: &mut Rng) -> Drawn {
+    let plan = Plan::draw(rng);
+    if rng.chance(75) {
+        let number = some_number(rng);
+        let damaged = aimed(number, &plan, rng);
+        return (node::bytes(&damaged.boxes), Some(refused(number, &damaged)));
+    }
+    let mut boxes = good(&plan, rng);
+    if rng.chance(3) {
+        node::fill_up(&mut boxes, MAX_BOXES);
+    }
+    (node::bytes(&boxes), Some(accepted(&plan)))
+}
+
+/// Rule 5 takes long to make and is drawn less often.
+fn some_number(rng: &mut Rng) -> u64 {
+    let number = rng.within(TRACK_NUMBERS);
+    if number == 5 && rng.chance(60) {
+        return rng.within(TRACK_NUMBERS);
+    }
+    number
+}
+
+fn set(rng: &mut Rng) -> Drawn {
+    match rng.below(100) {
+        0..=14 => {
+            let (bytes, good_records, place) = bad_bundle(rng);
+            (bytes, Some(Answer::refused(24, place).of_track(good_records)))
+        }
+        15..=39 => one_bad_track(rng),
+        40..=74 => one_other_track(rng),
+        _ => {
+            let plan = Plan::draw(rng);
+            let tracks = rng.pick(&[1, 2, 3, 16]);
+            (bundle(&good_tracks(tracks, &plan, rng)), Some(accepted(&plan)))
+        }
+    }
+}
+
+fn good_tracks(count: usize, plan: &Plan, rng: &mut Rng) -> Vec<Vec<u8>> {
+    (0..count).map(|_| node::bytes(&good(plan, rng))).collect()
+}
+
+/// How many good tracks stand before the one that matters.
+fn tracks_before(least: usize, rng: &mut Rng) -> usize {
+    let most = rng.pick(&[1, 1, 3, 13]);
+    rng.within(least as u64..=most) as usize
+}
+
+/// A track is refused for itself, whatever rules 25 to 28 would say of any track.
+fn one_bad_track(rng: &mut Rng) -> Drawn {
+    let plan = Plan::draw(rng);
+    let number = some_number(rng);
+    let before = tracks_before(0, rng);
+    let mut tracks = good_tracks(before, &plan, rng);
+    if before > 0 && rng.chance(50) {
+        let (other, _) = differing(rng.within(25..=28), &plan, rng);
+        tracks.push(node::bytes(&good(&other, rng)));
+    }
+    let damaged = aimed(number, &plan, rng);
+    let expected = refused(number, &damaged).of_track(tracks.len());
+    tracks.push(node::bytes(&damaged.boxes));
+    if rng.chance(30) {
+        let number = some_number(rng);
+        tracks.push(node::bytes(&aimed(number, &plan, rng).boxes));
+    }
+    (bundle(&tracks), Some(expected))
+}
+
+/// A good track differs from track 0; later ones may differ too.
+fn one_other_track(rng: &mut Rng) -> Drawn {
+    let plan = Plan::draw(rng);
+    let number = rng.within(25..=28);
+    let before = tracks_before(1, rng);
+    let mut tracks = good_tracks(before, &plan, rng);
+    let (other, boundary) = differing(number, &plan, rng);
+    let boxes = good(&other, rng);
+    let place = match number {
+        25 => node::place(&boxes, &steps("moov/trak/mdia/hdlr")),
+        26 => node::place(&boxes, &steps("moov/trak/mdia/mdhd")),
+        27 => node::total_size(&boxes) as u64,
+        _ => node::place(&boxes, &[(*b"moof", boundary.min(other.fragments() - 1))]),
+    };
+    tracks.push(node::bytes(&boxes));
+    let mut bytes = bundle(&tracks);
+    if rng.chance(40) {
+        let (another, _) = differing(rng.within(25..=28), &plan, rng);
+        bytes.extend(record(&node::bytes(&good(&another, rng))));
+    }
+    (bytes, Some(Answer::refused(number, place).of_track(before)))
+}
+
+#[cfg(test)]
+mod tests {
+    use super::*;
+
+    /// A case is known by its seed and number: made twice, it is the same.
+    #[test]
+    fn cases_can_be_made_again() {
+        for number in 0..50 {
+            for job in Job::ALL {
+                let again = || draw(job, &mut Rng::of_case(9, number)).bytes;
+                assert_eq!(again(), again());
+            }
+        }
+    }
+
+    /// Drawn numbers of samples reach the most that there may be.
+    #[test]
+    fn fragments_can_be_full() {
+        let mut rng = Rng::new(1);
+        let mut most = 0;
+        for _ in 0..100 {
+            let plan = Plan::draw(&mut rng);
+            let fragments = crate::draw::track(&plan, &mut rng).fragments;
+            let counts = fragments.iter().map(|f| f.runs.iter().map(|run| run.count).sum::<u32>());
+            most = most.max(counts.max().unwrap());
+        }
+        assert_eq!(most, 65_536);
+    }
+}

@@ -1,0 +1,34 @@
+//! Document 01's three jobs over lent bytes, in ordinary Rust: list the boxes
+//! of a slice, check one track, check a switching set.
+//!
+//! Nothing here allocates, and nothing panics, whatever the bytes are. A lent
+//! table is written on acceptance alone, and then only as far as the job fills it.
+
+#![forbid(unsafe_code)]
+
+mod counts;
+mod fields;
+mod fragment;
+mod framing;
+mod header;
+mod index;
+mod kinds;
+mod order;
+mod run;
+mod set;
+mod track;
+mod verdict;
+
+pub use index::index;
+pub use set::set;
+pub use track::track;
+pub use verdict::Verdict;
+
+/// Rule 1: the longest slice that is looked at, track or bundle.
+pub const MAX_BYTES: usize = 1 << 30;
+/// Rule 5 (house): the most boxes in one slice.
+pub const MAX_BOXES: usize = 4096;
+/// Rule 18 (house): the most samples in one fragment.
+pub const MAX_SAMPLES: u64 = 65_536;
+/// The bundle: the most records in one set.
+pub const MAX_TRACKS: usize = 16;

@@ -1,0 +1,6 @@
+//! The reference on made bytes.
+
+mod drawn;
+mod examples;
+mod judge;
+mod total;

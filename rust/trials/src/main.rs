@@ -1,0 +1,78 @@
+//! Tries the product against the reference.
+
+mod bench;
+mod drawn;
+mod dump;
+mod histogram;
+mod judge;
+mod options;
+mod pipe;
+mod run;
+mod small_stack;
+mod stack;
+mod tracks;
+mod vectors;
+mod wire;
+
+use judge::Judge;
+use options::Options;
+use std::process::ExitCode;
+
+const USAGE: &str = "\
+usage: trials run [--seed S] [--from K] [--cases N]
+                                                   the archive's verdicts and tables, N cases a job
+       trials pipe [--seed S] [--from K] [--cases N] -- COMMAND..
+                                                   the same of a program that reads cases
+       trials self [--seed S] [--from K] [--cases N]
+                                                   the reference beside what the maker expects
+       trials stack                                worst inputs in 64 KiB of stack
+       trials bench                                the archive's time beside the reference's
+       trials vectors [--seed S] [--cases N] [--max BYTES]
+                                                   write cases.bin, expected.txt, names.txt
+       trials dump NAME                            write an example to standard output
+       trials dump                                 list the names";
+
+fn main() -> ExitCode {
+    let mut arguments = std::env::args().skip(1);
+    let command = arguments.next().unwrap_or_default();
+    let rest: Vec<String> = arguments.collect();
+    match dispatch(&command, &rest) {
+        Ok(()) => ExitCode::SUCCESS,
+        Err(message) => {
+            eprintln!("{message}");
+            ExitCode::FAILURE
+        }
+    }
+}
+
+fn dispatch(command: &str, rest: &[String]) -> Result<(), String> {
+    match command {
+        "run" => run_as(Judge::archive()?, rest),
+        "self" => run_as(Judge::REFERENCE, rest),
+        "pipe" => {
+            let end = rest.iter().position(|word| word == "--").unwrap_or(rest.len());
+            let (seed, from, cases) = span(&rest[..end])?;
+            pipe::pipe(rest.get(end + 1..).unwrap_or_default(), seed, from, cases)
+        }
+        "stack" => stack::stack(Judge::archive()?),
+        "bench" => bench::bench(Judge::archive()?),
+        "vectors" => {
+            let options = Options::parse(rest, &["seed", "cases", "max"])?;
+            let max = options.get("max", 16_384) as usize;
+            vectors::vectors(options.get("seed", 1), options.get("cases", 900), max)
+        }
+        "dump" => dump::dump(rest),
+        _ => Err(USAGE.to_string()),
+    }
+}
+
+fn run_as(tried: Judge, rest: &[String]) -> Result<(), String> {
+    let (seed, from, cases) = span(rest)?;
+    run::run(tried, seed, from, cases)
+}
+
+/// Which cases: the seed, the first, and how many of each job.
+fn span(rest: &[String]) -> Result<(u64, u64, u64), String> {
+    let options = Options::parse(rest, &["seed", "from", "cases"])?;
+    Ok((options.get("seed", 1), options.get("from", 0), options.get("cases", 10_000)))
+}

@@ -1,0 +1,83 @@
+//! `trials stack`: the worst inputs, each with 64 KiB of stack.
+
+use crate::drawn::AMPLE;
+use crate::judge::Judge;
+use crate::run::compare;
+use crate::small_stack::with_stack;
+use crate::tracks::{bundle, crowded, large, many_runs, Shape};
+use maker::cases::Job;
+use maker::layout::{is_container, join};
+use maker::node::{self, Kind, Node};
+use std::io::Write;
+
+const STACK: usize = 64 * 1024;
+
+/// An overflow ends the process; what was being tried is the last line.
+pub fn stack(tried: Judge) -> Result<(), String> {
+    println!("trying the {} in {STACK} bytes of stack", tried.name);
+    for (name, bytes) in worst() {
+        for job in Job::ALL {
+            print!("{} {name}: ", job.name());
+            std::io::stdout().flush().map_err(|error| error.to_string())?;
+            let verdict = compare(tried, job, &bytes, &mut vec![7; AMPLE])?;
+            let bytes = bytes.clone();
+            // The table is the caller's and no part of the check's stack.
+            let mut table = vec![7; AMPLE];
+            let again = with_stack(STACK, move || tried.judge(job, &bytes, &mut table))?;
+            if again != verdict {
+                return Err(format!("{again:?} in the thread, {verdict:?} outside"));
+            }
+            println!("fits, number {}", verdict.number);
+        }
+    }
+    Ok(())
+}
+
+fn worst() -> Vec<(&'static str, Vec<u8>)> {
+    let track = |name, boxes: Vec<Node>| (name, node::bytes(&boxes));
+    let set = |name, track: Vec<Node>| (name, node::bytes(&bundle(&[&track[..]; 16])));
+    let flat = |kind: &Kind| vec![Node::leaf(kind, vec![]); reference::MAX_BOXES];
+    let deepest = nested("", &[b"moov", b"trak", b"mdia", b"minf", b"stbl", b"stsd"]);
+    let fragment = nested("", &[b"moof", b"traf", b"trun"]);
+    let deep = |node: &Node| {
+        vec![node.clone(); reference::MAX_BOXES / node::count(std::slice::from_ref(node))]
+    };
+    let fragments = large(0, Shape::ManyFragments);
+    vec![
+        ("no bytes", Vec::new()),
+        track("4,096 boxes", flat(b"free")),
+        track("4,096 moov", flat(b"moov")),
+        track("deepest nesting", vec![deepest.clone()]),
+        track("deepest nesting, many times", deep(&deepest)),
+        track("fragments of nothing, many times", deep(&fragment)),
+        track("a good track of 4,096 boxes", crowded()),
+        track("a good track of 582 fragments", fragments.clone()),
+        track("65,536 samples in many runs", many_runs()),
+        track("long runs", large(1 << 20, Shape::ManySmall)),
+        set("16 tracks of 4,096 boxes", crowded()),
+        set("16 tracks of 582 fragments", fragments),
+        set("16 tracks of 65,536 samples in many runs", many_runs()),
+        set("16 tracks of deepest nesting", deep(&deepest)),
+    ]
+}
+
+/// A box in a box in a box; the last one is empty.
+fn nested(path: &str, kinds: &[&Kind]) -> Node {
+    let (kind, deeper) = kinds.split_first().expect("a kind");
+    let inside = join(path, kind);
+    match deeper {
+        [] => Node::leaf(kind, vec![]),
+        _ if is_container(&inside) => Node::container(kind, vec![nested(&inside, deeper)]),
+        _ => panic!("{inside} is no container"),
+    }
+}
+
+#[cfg(test)]
+mod tests {
+    use super::*;
+
+    #[test]
+    fn fits() {
+        assert_eq!(stack(Judge::archive().unwrap_or(Judge::REFERENCE)), Ok(()));
+    }
+}

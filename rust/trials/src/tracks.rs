@@ -1,0 +1,151 @@
+//! Large and crowded tracks, for the bench and the stack.
+
+use maker::bundle::MARK;
+use maker::node::{self, Content, Node};
+use maker::track::{Defaults, Fill, Fragment, Run, Sample, Track, NON_SYNC};
+
+/// No more fragments fit into 4,096 boxes beside the header.
+pub const MAX_FRAGMENTS: usize = 582;
+const MAX_SAMPLES: usize = 65_536;
+
+/// How a track fills its bytes.
+#[derive(Clone, Copy)]
+pub enum Shape {
+    /// Some 48 samples a fragment, as large as it takes.
+    FewLarge,
+    /// As many samples as fit, each with a duration and a size of its own.
+    ManySmall,
+    /// Fragments and nothing but fragments, a sample each.
+    ManyFragments,
+}
+
+impl Shape {
+    pub fn name(self) -> &'static str {
+        match self {
+            Shape::FewLarge => "few large",
+            Shape::ManySmall => "many small",
+            Shape::ManyFragments => "many fragments",
+        }
+    }
+
+    /// Fragments, and samples in each, for about this many bytes.
+    fn plan(self, bytes: usize) -> (usize, usize) {
+        match self {
+            Shape::FewLarge => ((bytes >> 18).clamp(2, 500), 48),
+            Shape::ManySmall => {
+                // 8 bytes in the run and at least 6 of payload.
+                let samples = bytes / 14;
+                let fragments = samples.div_ceil(MAX_SAMPLES).clamp(2, MAX_FRAGMENTS);
+                (fragments, (samples / fragments).min(MAX_SAMPLES))
+            }
+            Shape::ManyFragments => (MAX_FRAGMENTS, 1),
+        }
+    }
+}
+
+/// A good track of about this many bytes.
+pub fn large(bytes: usize, shape: Shape) -> Vec<Node> {
+    let (fragments, samples) = shape.plan(bytes);
+    let entries = fragments * samples * 8;
+    let size = (bytes.saturating_sub(entries) / fragments / samples) as u32;
+    let fragment = |nth: usize| {
+        // Neighbours differ, so that no sum is a product in disguise.
+        let sample = |i: usize| Sample {
+            duration: 3000 + (i % 2) as u32,
+            size: size - (i % 4).min(size as usize) as u32,
+            ..Sample::default()
+        };
+        let run = Run {
+            version: 1,
+            flags: 0x305,
+            count: samples as u32,
+            first_sample_flags: 0,
+            samples: (0..samples).map(sample).collect(),
+            offset_error: 0,
+        };
+        let ticks = run.duration(&Defaults::default());
+        let start = nth as u64 * ticks;
+        Fragment {
+            start,
+            wide_tfdt: true,
+            tfhd_flags: 0x02_0000,
+            tfhd: Defaults::default(),
+            runs: vec![run],
+        }
+    };
+    let mut track = Track::example(0);
+    track.trex.flags = NON_SYNC;
+    track.fragments = (0..fragments).map(fragment).collect();
+    track.boxes(&mut Fill::Zeros)
+}
+
+/// A good track of 4,096 boxes, all but those of T being empty.
+pub fn crowded() -> Vec<Node> {
+    let mut boxes = maker::examples::track_t();
+    node::fill_up(&mut boxes, reference::MAX_BOXES);
+    boxes
+}
+
+/// One fragment of 65,536 samples in as many runs as boxes allow.
+pub fn many_runs() -> Vec<Node> {
+    let run = |count: usize| Run {
+        version: 0,
+        flags: 0x301,
+        count: count as u32,
+        first_sample_flags: 0,
+        samples: vec![Sample { duration: 1, size: 1, ..Sample::default() }; count],
+        offset_error: 0,
+    };
+    let runs = reference::MAX_BOXES - 20 - 6;
+    let mut track = Track::example(1);
+    let mut counts = vec![MAX_SAMPLES / runs; runs];
+    counts[0] += MAX_SAMPLES % runs;
+    track.fragments[0].runs = counts.into_iter().map(run).collect();
+    track.boxes(&mut Fill::Zeros)
+}
+
+/// The bundle of these tracks. Payloads stay zeros that nobody writes.
+pub fn bundle(tracks: &[&[Node]]) -> Vec<Node> {
+    let mut records = Vec::new();
+    for track in tracks {
+        let length = u32::try_from(node::total_size(track)).expect("a track's length");
+        records.push(Node::bare([&MARK[..], &length.to_be_bytes()].concat()));
+        records.extend(track.iter().cloned());
+    }
+    records
+}
+
+/// What is wrong with a track, seen only after all else has been.
+#[derive(Clone, Copy)]
+pub enum State {
+    Good,
+    /// In the last data box: rule 22, after every sum.
+    SpareByte,
+    /// After the last box: rule 2, or 5 in a track of 4,096 boxes.
+    StrayByte,
+}
+
+impl State {
+    pub const ALL: [State; 3] = [State::Good, State::SpareByte, State::StrayByte];
+
+    pub fn name(self) -> &'static str {
+        match self {
+            State::Good => "good",
+            State::SpareByte => "spare byte",
+            State::StrayByte => "stray byte",
+        }
+    }
+
+    pub fn apply(self, boxes: &mut Vec<Node>) {
+        match self {
+            State::Good => (),
+            State::SpareByte => {
+                let mdat = boxes.iter_mut().rfind(|node| node.kind == *b"mdat");
+                if let Content::Zeros(len) = &mut mdat.expect("a data box").content {
+                    *len += 1;
+                }
+            }
+            State::StrayByte => boxes.push(Node::bare(vec![0])),
+        }
+    }
+}
