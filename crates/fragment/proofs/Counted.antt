@@ -19,6 +19,17 @@ pub body-low : (m : List ℕ) (at : ℕ) → length (body m at) ≤ length m - (
 unfolding body
 body-low m at = simp (length-take, length-drop) (omega arith)
 
+-- the first box of a type in the body of the container at a place stands behind the header
+pub first-inside :
+    (m b : List ℕ) (at w head first : ℕ) → b ≡ body m at → head ≡ headOf m at → head ≤ 16 → first ≡ firstOf (seen w (boxes b 0)) →
+    first ≤ length b → Inside m at w (at + head + first)
+unfolding child kids
+first-inside m b at w head first is h k e low =
+    record {
+      is = rw (e, h, is);
+      low = omega (arith, low, ap length is, body-low m at);
+    }
+
 -- what a count says in either case
 module _ (c : Count) (rule : Rule) (v : Seen) (says : saysCount c rule v) where
   pub counted : (a : ℕ) → c ≡ At a → (rule ≡ Holds) × (a ≡ firstOf v)

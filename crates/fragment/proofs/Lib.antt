@@ -1,4 +1,5 @@
 pub mod Counted
+pub mod First
 pub mod Flags
 pub mod Judged
 pub mod Standing

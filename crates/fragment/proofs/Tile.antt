@@ -24,30 +24,30 @@ use Rattle.fragment.specs.declared.told.Told.{Told}
 use Rattle.fragment.proofs.Walk.{next-run, runs-next, runs-over}
 
 -- what the walk knows at a place of the body: the sums of the runs passed, and rule 22 of them
-pub record Tiled (base : ℕ) (m : List ℕ) (d : Defaults) (from : ℕ) (b : List ℕ) (shift at : ℕ) (first : Bool) (ticks bytes : ℕ) (tiled : Rule) : Type 0 where
-  pub ticksAll : durationsOf m d (runsAt b shift 0) ≡ ticks + durationsOf m d (runsAt b shift at)
-  pub bytesAll : bytesIn m d (runsAt b shift 0) ≡ bytes + bytesIn m d (runsAt b shift at)
-  pub tiledAll : rule22runs base m d true from (runsAt b shift 0) ≡ (tiled then rule22runs base m d first (from + bytes) (runsAt b shift at))
+pub record Tiled (base : ℕ) (m : List ℕ) (d : Defaults) (from : ℕ) (b : List ℕ) (shift start at : ℕ) (first : Bool) (ticks bytes : ℕ) (tiled : Rule) : Type 0 where
+  pub ticksAll : durationsOf m d (runsAt b shift start) ≡ ticks + durationsOf m d (runsAt b shift at)
+  pub bytesAll : bytesIn m d (runsAt b shift start) ≡ bytes + bytesIn m d (runsAt b shift at)
+  pub tiledAll : rule22runs base m d true from (runsAt b shift start) ≡ (tiled then rule22runs base m d first (from + bytes) (runsAt b shift at))
   pub ticksLow : ticks + 4294967295 * samplesOf m (runsAt b shift at) ≤ 281474976645120
   pub bytesLow : bytes + 4294967295 * samplesOf m (runsAt b shift at) ≤ 281474976645120
   pub inner : at ≤ length b
 
 pub tiled-none :
-    (base : ℕ) (m : List ℕ) (d : Defaults) (from : ℕ) (b : List ℕ) (shift : ℕ) → samplesOf m (runsAt b shift 0) ≤ 65536 →
-    Tiled base m d from b shift 0 true 0 0 Holds
-tiled-none base m d from b shift h =
+    (base : ℕ) (m : List ℕ) (d : Defaults) (from : ℕ) (b : List ℕ) (shift start : ℕ) → samplesOf m (runsAt b shift start) ≤ 65536 → start ≤ length b →
+    Tiled base m d from b shift start start true 0 0 Holds
+tiled-none base m d from b shift start h low =
     record {
       ticksAll = omega arith;
       bytesAll = omega arith;
       tiledAll =
-          sym (then-holds _ refl ∙ ap (λ (e : ℕ). rule22runs base m d true e (runsAt b shift 0)) (omega arith));
+          sym (then-holds _ refl ∙ ap (λ (e : ℕ). rule22runs base m d true e (runsAt b shift start)) (omega arith));
       ticksLow = omega arith;
       bytesLow = omega arith;
-      inner = omega arith;
+      inner = low;
     }
 
-module _ (base : ℕ) (m : List ℕ) (d : Defaults) (from : ℕ) (b : List ℕ) (shift at : ℕ) (first : Bool) (ticks bytes : ℕ) (w : Told) {x : Next} (s : Tiled base m d from b shift at first ticks bytes (ruleOf w)) (says : nextOf x b at trun) where
-  pub tiled-all : x ≡ Nothing → Tiles base m d from (runsAt b shift 0) (record { ticks = ticks; bytes = bytes; tiled = w })
+module _ (base : ℕ) (m : List ℕ) (d : Defaults) (from : ℕ) (b : List ℕ) (shift start at : ℕ) (first : Bool) (ticks bytes : ℕ) (w : Told) {x : Next} (s : Tiled base m d from b shift start at first ticks bytes (ruleOf w)) (says : nextOf x b at trun) where
+  pub tiled-all : x ≡ Nothing → Tiles base m d from (runsAt b shift start) (record { ticks = ticks; bytes = bytes; tiled = w })
   unfolding durationsOf bytesIn rule22runs
   tiled-all e =
       let o = runs-over b at says shift e in
@@ -69,7 +69,7 @@ module _ (base : ℕ) (m : List ℕ) (d : Defaults) (from : ℕ) (b : List ℕ) 
         (own : Bool) (bad next : Rule) (t u : ℕ) → own ≡ placed first m (shift + p) (from + bytes) →
         bad ≡ must own 22 (base + (shift + p)) → next ≡ (ruleOf w then bad) →
         Summed (durationOf m d (shift + p)) (countOf m (shift + p)) t → Summed (bytesOf m d (shift + p)) (countOf m (shift + p)) u →
-        Tiled base m d from b shift q false (ticks + t) (bytes + u) next
+        Tiled base m d from b shift start q false (ticks + t) (bytes + u) next
     unfolding samplesOf durationsOf bytesIn runDuration runBytes rule22runs
     tiled-more own bad next t u o k n v z =
         let more = runs-next b at says shift e in
@@ -89,16 +89,16 @@ module _ (base : ℕ) (m : List ℕ) (d : Defaults) (from : ℕ) (b : List ℕ) 
         }
 
 -- the first sample: past a run that has none, and at one that has
-module _ (m : List ℕ) (d : Defaults) (b : List ℕ) (shift at : ℕ) {x : Next} (s : firstFlags m d (runsAt b shift 0) ≡ firstFlags m d (runsAt b shift at)) (says : nextOf x b at trun) where
-  pub first-none : x ≡ Nothing → 0 ≡ firstFlags m d (runsAt b shift 0)
+module _ (m : List ℕ) (d : Defaults) (b : List ℕ) (shift start at : ℕ) {x : Next} (s : firstFlags m d (runsAt b shift start) ≡ firstFlags m d (runsAt b shift at)) (says : nextOf x b at trun) where
+  pub first-none : x ≡ Nothing → 0 ≡ firstFlags m d (runsAt b shift start)
   unfolding firstFlags
   first-none e = sym (s ∙ ap (firstFlags m d) (runs-over b at says shift e))
 
   module _ (p q : ℕ) (e : x ≡ At p q) (n : ℕ) (count : n ≡ field m (shift + p) 4) where
-    pub first-past : n ≡ 0 → firstFlags m d (runsAt b shift 0) ≡ firstFlags m d (runsAt b shift q)
+    pub first-past : n ≡ 0 → firstFlags m d (runsAt b shift start) ≡ firstFlags m d (runsAt b shift q)
     unfolding firstFlags countOf
     first-past z = s ∙ ap (firstFlags m d) (runs-next b at says shift e) ∙ rw (← count, eq-eqb _ _ z)
 
-    pub first-here : (n ≡ 0 → ⊥) → firstFlagsOf m d (shift + p) ≡ firstFlags m d (runsAt b shift 0)
+    pub first-here : (n ≡ 0 → ⊥) → firstFlagsOf m d (shift + p) ≡ firstFlags m d (runsAt b shift start)
     unfolding firstFlags countOf
     first-here z = sym (s ∙ ap (firstFlags m d) (runs-next b at says shift e) ∙ rw (← count, ne-eqb _ _ z))

@@ -38,23 +38,23 @@ module _ (b : List ℕ) (at : ℕ) {x : Next} (says : nextOf x b at trun) where
   runs-over shift e = ap (shifted shift) (subst (λ (y : Next). nextOf y b at trun) e says)
 
 -- what a survey knows at a place of the body: each run passed was sized, rule 16 of them, and their samples
-pub record Surveyed (base : ℕ) (m b : List ℕ) (shift at : ℕ) (clash : Rule) (samples : ℕ) : Type 0 where
-  pub sized : rule15runs base m (runsAt b shift 0) ≡ rule15runs base m (runsAt b shift at)
-  pub clear : rule16runs base m (runsAt b shift 0) ≡ (clash then rule16runs base m (runsAt b shift at))
-  pub counted : samplesOf m (runsAt b shift 0) ≡ samples + samplesOf m (runsAt b shift at)
+pub record Surveyed (base : ℕ) (m b : List ℕ) (shift start at : ℕ) (clash : Rule) (samples : ℕ) : Type 0 where
+  pub sized : rule15runs base m (runsAt b shift start) ≡ rule15runs base m (runsAt b shift at)
+  pub clear : rule16runs base m (runsAt b shift start) ≡ (clash then rule16runs base m (runsAt b shift at))
+  pub counted : samplesOf m (runsAt b shift start) ≡ samples + samplesOf m (runsAt b shift at)
   pub few : 8 * samples ≤ 4294967295 * at
   pub inner : at ≤ length b
 
-pub surveyed-none : (base : ℕ) (m b : List ℕ) (shift : ℕ) → Surveyed base m b shift 0 Holds 0
-surveyed-none base m b shift =
-    record { sized = refl; clear = sym (then-holds _ refl); counted = omega arith; few = omega arith; inner = omega arith }
+pub surveyed-none : (base : ℕ) (m b : List ℕ) (shift start : ℕ) → start ≤ length b → Surveyed base m b shift start start Holds 0
+surveyed-none base m b shift start h =
+    record { sized = refl; clear = sym (then-holds _ refl); counted = omega arith; few = omega arith; inner = h }
 
-module _ (base : ℕ) (m b : List ℕ) (shift at : ℕ) (clash : Rule) (samples : ℕ) {x : Next} (s : Surveyed base m b shift at clash samples) (says : nextOf x b at trun) where
+module _ (base : ℕ) (m b : List ℕ) (shift start at : ℕ) (clash : Rule) (samples : ℕ) {x : Next} (s : Surveyed base m b shift start at clash samples) (says : nextOf x b at trun) where
   pub surveyed-all :
       x ≡ Nothing →
-      (rule15runs base m (runsAt b shift 0) ≡ Holds)
-      × (clash ≡ rule16runs base m (runsAt b shift 0))
-      × (samples ≡ samplesOf m (runsAt b shift 0))
+      (rule15runs base m (runsAt b shift start) ≡ Holds)
+      × (clash ≡ rule16runs base m (runsAt b shift start))
+      × (samples ≡ samplesOf m (runsAt b shift start))
   unfolding rule15runs rule16runs samplesOf
   surveyed-all e =
       let o = runs-over b at says shift e in (
@@ -64,7 +64,7 @@ module _ (base : ℕ) (m b : List ℕ) (shift at : ℕ) (clash : Rule) (samples 
       )
 
   module _ (p q : ℕ) (e : x ≡ At p q) {y : Trun} (told : saysTrun y m (shift + p)) where
-    pub surveyed-wrong : y ≡ Wrong → rule15runs base m (runsAt b shift 0) ≡ Breaks 15 0 (base + (shift + p))
+    pub surveyed-wrong : y ≡ Wrong → rule15runs base m (runsAt b shift start) ≡ Breaks 15 0 (base + (shift + p))
     unfolding rule15runs
     surveyed-wrong w =
         s .sized
@@ -73,7 +73,7 @@ module _ (base : ℕ) (m b : List ℕ) (shift at : ℕ) (clash : Rule) (samples 
 
     pub surveyed-more :
         (f n : ℕ) (ok : Bool) (bad : Rule) → y ≡ Run f n → n ≤ 4294967295 → ok ≡ not (has f 0x4 && has f 0x400) → bad ≡ must ok 16 (base + (shift + p)) →
-        (next : Rule) → next ≡ (clash then bad) → Surveyed base m b shift q next (samples + n)
+        (next : Rule) → next ≡ (clash then bad) → Surveyed base m b shift start q next (samples + n)
     unfolding rule15runs rule16runs samplesOf
     surveyed-more f n ok bad w k a d next c =
         let t = subst (λ (z : Trun). saysTrun z m (shift + p)) w told in

@@ -11,6 +11,8 @@ use Rattle.rules.specs.Fragment.{rule14}
 use Rattle.rules.specs.declared.Rule.{Rule}
 use Rattle.rules.specs.declared.Rule.the-variants.{Holds, Breaks}
 use Rattle.rules.specs.declared.Seen.{Seen}
+use Rattle.boxes.specs.Siblings.{Saw}
+use Rattle.fragment.specs.declared.counts.Trio.{Trio}
 use Rattle.fragment.specs.declared.counts.Count.{Count}
 use Rattle.fragment.specs.declared.counts.Count.the-variants.{At, Refused}
 use Rattle.fragment.specs.declared.counts.InMoof.{InMoof}
@@ -20,6 +22,12 @@ use Rattle.fragment.specs.declared.counts.InTraf.the-variants.{Three, Re
 use Rattle.fragment.specs.declared.counts.Moof.{Moof}
 use Rattle.fragment.specs.declared.counts.Found.{Found}
 use Rattle.fragment.specs.declared.counts.Found.the-variants.{All, Refused as allRefused}
+
+-- what is seen of three wanted types among the boxes of a slice
+pub record SawThree (s : List ℕ) (v w x : ℕ) (t : Trio) : Type 0 where
+  pub a : Saw s v (t .a)
+  pub b : Saw s w (t .b)
+  pub c : Saw s x (t .c)
 
 -- the count is right, and the first box seen stands there; or the count is refused
 abbrev pub saysCount : Count → Rule → Seen → Type 0

@@ -112,7 +112,7 @@ pub fn read_bodies(m: &[u8], base: u64, x: Moof) -> Bodies
     };
     let b = fields::body(m, x.traf);
     let shift = x.traf + fields::head_of(m, x.traf);
-    let all = runs::survey_runs(m, b, shift, base);
+    let all = runs::survey_runs(m, b, shift, x.run - shift, base);
     match all {
         Survey::Missized(p) => Bodies::Refused(p),
         Survey::Runs { clash, samples } => Bodies::Known(Body {

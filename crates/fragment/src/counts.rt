@@ -1,16 +1,18 @@
 // Rule 14: how many boxes of each type stand in `moof` and in `traf`, and where.
 ghost use mathlib.Core.Path.{_≡_};
-ghost use Prim.Native.Nat.{_+_, _≤_};
+ghost use Prim.Native.Nat.{_+_, _<_, _≤_};
 ghost use lib.ListN.{length};
 ghost use Rattle.rules.specs.Header.{oneOf, someOf};
-ghost use Rattle.rules.specs.Boxes.{firstOf};
+ghost use Rattle.rules.specs.Boxes.{boxes, again, seen, firstOf};
 ghost use Rattle.boxes.specs.Siblings.{secondOf};
-ghost use Rattle.fragment.specs.Counts.{saysCount, saysPlace, saysInMoof, saysInTraf, saysFound, Inside};
+ghost use Rattle.fragment.specs.Counts.{saysCount, saysPlace, saysInMoof, saysInTraf, saysFound, Inside, SawThree};
+use boxes::Next;
 use boxes::kinds::MFHD;
 use boxes::kinds::TFDT;
 use boxes::kinds::TFHD;
 use boxes::kinds::TRAF;
 use boxes::kinds::TRUN;
+use rules::Look;
 use rules::Seen;
 
 // A box that is there as often as it may be, or the place of the refusal.
@@ -48,6 +50,50 @@ pub struct Moof {
 pub enum Found {
     All(Moof),
     Refused(u64),
+}
+
+// What is seen of three wanted types.
+pub struct Trio {
+    pub a: Seen,
+    pub b: Seen,
+    pub c: Seen,
+}
+
+// What is seen after one box more at a place.
+fn again(seen: Seen, at: usize) -> Seen
+    ensures { λ r. ⌜ r ≡ again at seen ⌝ }
+{
+    match seen {
+        Seen::Never => Seen::Once(at),
+        Seen::Once(a) => Seen::Twice(a, at),
+        Seen::Twice(a, b) => Seen::Twice(a, b),
+    }
+}
+
+// What is seen of three wanted types among the sibling boxes of a slice.
+fn tally(s: &[u8], v: u32, w: u32, x: u32) -> Trio
+    ensures { λ r. ⌜ SawThree (now (s .entry)) v w x r ⌝ }
+{
+    let mut at = 0;
+    let mut a = Seen::Never;
+    let mut b = Seen::Never;
+    let mut c = Seen::Never;
+    loop {
+        let l = boxes::look(s, at);
+        let Look::Header { size, kind, .. } = l else {
+            return Trio { a, b, c };
+        };
+        if boxes::named(v, kind) {
+            a = again(a, at);
+        }
+        if boxes::named(w, kind) {
+            b = again(b, at);
+        }
+        if boxes::named(x, kind) {
+            c = again(c, at);
+        }
+        at += size;
+    }
 }
 
 // One box: the container's place if missing, the first extra box's if too many.
@@ -89,7 +135,7 @@ fn in_moof(m: &[u8], base: u64) -> InMoof
     ensures { λ r. ⌜ saysInMoof r base (now (m .entry)) ⌝ }
 {
     let b = fields::body(m, 0);
-    let seen = boxes::tally(b, MFHD, TRAF, TRAF, TRAF, TRAF);
+    let seen = tally(b, MFHD, TRAF, TRAF);
     let head = fields::head_of(m, 0);
     let inner = base + head as u64;
     let mfhds = seen.a;
@@ -114,7 +160,7 @@ fn in_traf(m: &[u8], base: u64, traf: usize) -> InTraf
     ensures { λ r. ⌜ saysInTraf r base (now (m .entry)) traf ⌝ }
 {
     let b = fields::body(m, traf);
-    let seen = boxes::tally(b, TFHD, TFDT, TRUN, TRUN, TRUN);
+    let seen = tally(b, TFHD, TFDT, TRUN);
     let from = traf + fields::head_of(m, traf);
     let container = base + traf as u64;
     let inner = base + from as u64;
@@ -164,25 +210,26 @@ pub fn find_boxes(m: &[u8], base: u64) -> Found
     }
 }
 
-// The first place seen, 0 where there is none.
-fn first_place(v: Seen) -> usize
-    ensures { λ r. ⌜ r ≡ firstOf v ⌝ }
+// The place of the first box of a type among siblings, 0 where there is none.
+fn first_in(b: &[u8], kind: u32) -> usize
+    requires { ⌜ 0 < kind ⌝ }
+    ensures { λ r. ⌜ r ≡ firstOf (seen kind (boxes (now (b .entry)) 0)) ⌝ }
+    ensures { λ r. ⌜ r ≤ length (now (b .entry)) ⌝ }
 {
-    match v {
-        Seen::Never => 0,
-        Seen::Once(a) => a,
-        Seen::Twice(a, _) => a,
+    let found = boxes::next_of(b, 0, kind);
+    match found {
+        Next::At { place, next: _ } => place,
+        Next::Nothing => 0,
     }
 }
 
 // The place of the first box of a type in the container at a place.
 pub fn child_of(m: &[u8], at: usize, kind: u32) -> usize
     requires { ⌜ at ≤ length (now m) + 16 ⌝ }
+    requires { ⌜ 0 < kind ⌝ }
     ensures { λ r. ⌜ Inside (now (m .entry)) at kind r ⌝ }
 {
     let b = fields::body(m, at);
-    let seen = boxes::tally(b, kind, kind, kind, kind, kind);
-    let v = seen.a;
     let from = at + fields::head_of(m, at);
-    from + first_place(v)
+    from + first_in(b, kind)
 }

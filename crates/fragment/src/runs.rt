@@ -63,12 +63,12 @@ fn apart(flags: u32) -> bool
     true
 }
 
-// The runs in the body of `traf`, which is shifted in the `moof`.
-pub fn survey_runs(m: &[u8], b: &[u8], shift: usize, base: u64) -> Survey
-    requires { ⌜ (length (now b) ≤ 4294967296) × (shift ≤ 8589934592) × (base ≤ 4294967296) ⌝ }
-    ensures { λ r. ⌜ saysSurvey r base (now (m .entry)) (runsAt (now (b .entry)) shift 0) ⌝ }
+// The runs in the body of `traf`, which is shifted in the `moof`, from a start on.
+pub fn survey_runs(m: &[u8], b: &[u8], shift: usize, start: usize, base: u64) -> Survey
+    requires { ⌜ (length (now b) ≤ 4294967296) × (start ≤ length (now b)) × (shift ≤ 8589934592) × (base ≤ 4294967296) ⌝ }
+    ensures { λ r. ⌜ saysSurvey r base (now (m .entry)) (runsAt (now (b .entry)) shift start) ⌝ }
 {
-    let mut at = 0;
+    let mut at = start;
     let mut clash = Told::Holds;
     let mut samples: u64 = 0;
     loop {
@@ -105,12 +105,12 @@ fn first_flags_of(m: &[u8], r: usize, d: Defaults) -> u32
     d.flags
 }
 
-// The flags of the fragment's first sample: that of the first run that has one.
-pub fn first_flags(m: &[u8], b: &[u8], shift: usize, d: Defaults) -> u32
-    requires { ⌜ (length (now b) ≤ 4294967296) × (shift ≤ 8589934592) ⌝ }
-    ensures { λ r. ⌜ r ≡ firstFlags (now (m .entry)) d (runsAt (now (b .entry)) shift 0) ⌝ }
+// The flags of the first sample of the runs from a start on: that of the first run that has one.
+pub fn first_flags(m: &[u8], b: &[u8], shift: usize, start: usize, d: Defaults) -> u32
+    requires { ⌜ (length (now b) ≤ 4294967296) × (start ≤ length (now b)) × (shift ≤ 8589934592) ⌝ }
+    ensures { λ r. ⌜ r ≡ firstFlags (now (m .entry)) d (runsAt (now (b .entry)) shift start) ⌝ }
 {
-    let mut at = 0;
+    let mut at = start;
     loop {
         let n = boxes::next_of(b, at, TRUN);
         let Next::At { place, next } = n else {
@@ -137,13 +137,21 @@ fn placed(first: bool, m: &[u8], r: usize, e: u64) -> bool
     !first
 }
 
-// The runs' durations, sizes and offsets, where the first byte is at a place after the `moof` start.
-pub fn tile_runs(m: &[u8], b: &[u8], shift: usize, base: u64, d: Defaults, from: u64) -> Tiling
-    requires { ⌜ (length (now b) ≤ 4294967296) × (shift ≤ 8589934592) × (base ≤ 4294967296) × (from ≤ 8589934592) ⌝ }
-    requires { ⌜ samplesOf (now m) (runsAt (now b) shift 0) ≤ 65536 ⌝ }
-    ensures { λ r. ⌜ Tiles base (now (m .entry)) d from (runsAt (now (b .entry)) shift 0) r ⌝ }
+// The durations, sizes and offsets of the runs from a start on, where the first byte is at a place after the `moof` start.
+pub fn tile_runs(
+    m: &[u8],
+    b: &[u8],
+    shift: usize,
+    start: usize,
+    base: u64,
+    d: Defaults,
+    from: u64,
+) -> Tiling
+    requires { ⌜ (length (now b) ≤ 4294967296) × (start ≤ length (now b)) × (shift ≤ 8589934592) × (base ≤ 4294967296) × (from ≤ 8589934592) ⌝ }
+    requires { ⌜ samplesOf (now m) (runsAt (now b) shift start) ≤ 65536 ⌝ }
+    ensures { λ r. ⌜ Tiles base (now (m .entry)) d from (runsAt (now (b .entry)) shift start) r ⌝ }
 {
-    let mut at = 0;
+    let mut at = start;
     let mut first = true;
     let mut ticks: u64 = 0;
     let mut bytes: u64 = 0;

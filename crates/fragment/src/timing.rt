@@ -66,14 +66,15 @@ fn span(m: &[u8], base: u64, head: u64, payload: u64, d: Defaults, s: Shaped) ->
     let own = layout::defaults_at(m, x.tfhd, d);
     let b = fields::body(m, x.traf);
     let shift = x.traf + fields::head_of(m, x.traf);
+    let first = x.run - shift;
     let data = m.len() as u64;
-    let all = runs::tile_runs(m, b, shift, base, own, data + head);
+    let all = runs::tile_runs(m, b, shift, first, base, own, data + head);
     let place = base + x.run as u64;
     let last = end_at(start, all.ticks);
     let End::At(end) = last else {
         return Fragment::Refused { number: 20, place };
     };
-    if !is_sync(runs::first_flags(m, b, shift, own)) {
+    if !is_sync(runs::first_flags(m, b, shift, first, own)) {
         return Fragment::Refused { number: 21, place };
     }
     let offsets = all.tiled;

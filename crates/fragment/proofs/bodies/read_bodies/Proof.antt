@@ -1,7 +1,7 @@
 -- `fragment::bodies::read_bodies` meets its contract. Assumes nothing.
 use mathlib.Core.Path.{_≡_, refl, ap, _∙_}
 use mathlib.Core.Bool.{true}
-use Prim.Native.Nat.{ℕ, _+_}
+use Prim.Native.Nat.{ℕ, _+_, _-_}
 use native.Mathlib.Omega.{arith}
 use lib.ListN.{length}
 use borrow.Author.Needs.{needs}
@@ -12,7 +12,7 @@ use Rattle.rules.proofs.Then.{then-holds, then-breaks, must-true, must-false}
 use Rattle.fragment.specs.Bodies.{timeAt}
 use Rattle.fragment.specs.Runs.{runsAt}
 use Rattle.fragment.proofs.Counted.{body-low}
-use Rattle.fragment.proofs.Standing.{start-is, tfhd-is, tfdt-is, runs-are, rule15-is}
+use Rattle.fragment.proofs.Standing.{start-is, tfhd-is, tfdt-is, From, runs-from, rule15-is}
 use Rattle.fragment.proofs.bodies.read_bodies.Statement.{statement}
 use Rattle.fragment.proofs.bodies.read_bodies.Tie as tie
 
@@ -50,28 +50,32 @@ returns-3 c =
     ∙ then-holds _ (must-true 15 _ (h .0))
     ∙ then-breaks _ (must-false 15 _ wrong)
 
+-- the runs begin at the first
+from : (c : tie.After-head-of) → From (now (c .before .before .before .before .before .before .before .before .before .before .before .before .before .before .args .m)) (now (c .before .body .result)) (c .before .before .before .before .before .before .before .before .before .before .before .before .before .before .args .x .traf + c .head-of .result) (c .before .before .before .before .before .before .before .before .before .before .before .before .before .before .args .x .run)
+from c =
+    let s = c .before .before .before .before .before .before .before .before .before .before .before .before .before .before in
+    let n = c .head-of in
+    runs-from (now (s .args .m)) (s .args .x) (s .pre .1) (now (c .before .body .result)) (s .args .x .traf + n .result) (c .before .body .ensures) (ap (λ (y : ℕ). s .args .x .traf + y) (n .ensures .0))
+
+sub-survey-runs : tie.Need-sub-survey-runs
+sub-survey-runs c = from (c .before .before) .after
+
 survey-runs-requires : tie.Need-survey-runs-requires
 survey-runs-requires c κs =
-    let s = c .before .before .before .before .before .before .before .before .before .before .before .before .before .before .before in
-    omega (arith, s .pre .0, s .pre .1 .traf .low, c .before .head-of .ensures .1, ap length (c .before .before .body .ensures), body-low (now (s .args .m)) (s .args .x .traf))
-
--- the runs in the body of `traf`
-runs : (c : tie.After-survey-runs) → runsAt (now (c .before .before .before .body .result)) (c .before .before .before .before .before .before .before .before .before .before .before .before .before .before .before .before .args .x .traf + c .before .before .head-of .result) 0 ≡ runsIn (now (c .before .before .before .before .before .before .before .before .before .before .before .before .before .before .before .before .args .m))
-runs c =
-    let s = c .before .before .before .before .before .before .before .before .before .before .before .before .before .before .before .before in
-    let n = c .before .before .head-of in
-    runs-are (now (s .args .m)) (s .args .x) (s .pre .1) (now (c .before .before .before .body .result)) (s .args .x .traf + n .result) (c .before .before .before .body .ensures) (ap (λ (y : ℕ). s .args .x .traf + y) (n .ensures .0))
+    let n = c .before .before in
+    let s = n .before .before .before .before .before .before .before .before .before .before .before .before .before .before in
+    omega (arith, s .pre .0, s .pre .1 .traf .low, n .head-of .ensures .1, ap length (n .before .body .ensures), body-low (now (s .args .m)) (s .args .x .traf), from n .within)
 
 -- rule 15 is that of the runs where the boxes before them are right
-rest : (c : tie.After-survey-runs) → rule15 (c .before .before .before .before .before .before .before .before .before .before .before .before .before .before .before .before .args .base) (now (c .before .before .before .before .before .before .before .before .before .before .before .before .before .before .before .before .args .m)) ≡ rule15runs (c .before .before .before .before .before .before .before .before .before .before .before .before .before .before .before .before .args .base) (now (c .before .before .before .before .before .before .before .before .before .before .before .before .before .before .before .before .args .m)) (runsAt (now (c .before .before .before .body .result)) (c .before .before .before .before .before .before .before .before .before .before .before .before .before .before .before .before .args .x .traf + c .before .before .head-of .result) 0)
+rest : (c : tie.After-survey-runs) → rule15 (c .before .before .before .before .before .before .before .before .before .before .before .before .before .before .before .before .before .args .base) (now (c .before .before .before .before .before .before .before .before .before .before .before .before .before .before .before .before .before .args .m)) ≡ rule15runs (c .before .before .before .before .before .before .before .before .before .before .before .before .before .before .before .before .before .args .base) (now (c .before .before .before .before .before .before .before .before .before .before .before .before .before .before .before .before .before .args .m)) (runsAt (now (c .before .before .before .before .body .result)) (c .before .before .before .before .before .before .before .before .before .before .before .before .before .before .before .before .before .args .x .traf + c .before .before .before .head-of .result) (c .before .before .before .before .before .before .before .before .before .before .before .before .before .before .before .before .before .args .x .run - (c .before .before .before .before .before .before .before .before .before .before .before .before .before .before .before .before .before .args .x .traf + c .before .before .before .head-of .result)))
 rest c =
-    let t = c .before .before .before .before in
+    let t = c .before .before .before .before .before in
     let k = t .before .before .before .before in
     let e = k .before .before .before .before in
     let s = e .before .before .before .before in
     let h = rw (k .before .tfhd .given .1) at (k .before .before .before .read-tfhd .ensures) in
     let d = rw (t .before .tfdt .given .1) at (t .before .before .before .read-tfdt .ensures) in
-    rule15-is (now (s .args .m)) (s .args .x) (s .pre .1) (s .args .base) _ (runs c)
+    rule15-is (now (s .args .m)) (s .args .x) (s .pre .1) (s .args .base) _ (from (c .before .before .before) .runs)
     ∙ then-holds _ (must-true 15 _ (plain-mfhd e))
     ∙ then-holds _ (must-true 15 _ (h .0))
     ∙ then-holds _ (must-true 15 _ (d .0))
@@ -84,9 +88,9 @@ returns-4 c =
 returns-5 : tie.Need-returns-5
 returns-5 c =
     let v = c .before .before .before in
-    let t = v .before .before .before .before in
+    let t = v .before .before .before .before .before in
     let k = t .before .before .before .before in
-    let s = v .before .before .before .before .before .before .before .before .before .before .before .before .before .before .before .before in
+    let s = v .before .before .before .before .before .before .before .before .before .before .before .before .before .before .before .before .before in
     let m = now (s .args .m) in
     let h = rw (k .before .tfhd .given .1) at (k .before .before .before .read-tfhd .ensures) in
     let d = rw (t .before .tfdt .given .1) at (t .before .before .before .read-tfdt .ensures) in
@@ -96,8 +100,8 @@ returns-5 c =
         flags = h .1 ∙ ap (flagsOf m) (tfhd-is m (s .args .x) (s .pre .1));
         id = h .2 ∙ ap (λ (y : ℕ). field m y 4) (tfhd-is m (s .args .x) (s .pre .1));
         start = d .1 ∙ ap (timeAt m) (tfdt-is m (s .args .x) (s .pre .1)) ∙ start-is m;
-        clash = r .1 ∙ ap (rule16runs (s .args .base) m) (runs v);
-        samples = r .2 ∙ ap (samplesOf m) (runs v);
+        clash = r .1 ∙ ap (rule16runs (s .args .base) m) (from (v .before .before .before) .runs);
+        samples = r .2 ∙ ap (samplesOf m) (from (v .before .before .before) .runs);
       },
     )
 
@@ -123,6 +127,7 @@ read-bodies-spec =
     (λ c κs. search needs)
     (λ c κs. search needs)
     (λ c. search needs)
+    sub-survey-runs
     survey-runs-requires
     (λ c. search needs)
     (λ c. search needs)

@@ -13,19 +13,19 @@ use Rattle.fragment.proofs.runs.first_flags.Statement.{statement}
 use Rattle.fragment.proofs.runs.first_flags.Tie as tie
 
 abbrev Inv-loop : tie.InvT-loop
-Inv-loop m b shift d at₀ at = (at ≤ length b) × (firstFlags m d (runsAt b shift 0) ≡ firstFlags m d (runsAt b shift at))
+Inv-loop m b shift start d at₀ at = (at ≤ length b) × (firstFlags m d (runsAt b shift start) ≡ firstFlags m d (runsAt b shift at))
 
 abbrev μ-loop : tie.MeasureT-loop
-μ-loop m b shift d at₀ at = length b - at
+μ-loop m b shift start d at₀ at = length b - at
 
 loop-holds : tie.Need-loop-holds Inv-loop μ-loop
-loop-holds c = (omega arith, refl)
+loop-holds c = (c .before .before .pre .1, refl)
 
 returns : tie.Need-returns Inv-loop μ-loop
 returns c =
     let l = c .before .before .before .loop in
     let a = c .before .before .before .before .before .before .args in
-    first-none (now (a .m)) (a .d) (now (a .b)) (a .shift) (l .at) (l .inv .1) (c .before .before .next-of .ensures) (c .enum-told .given .1)
+    first-none (now (a .m)) (a .d) (now (a .b)) (a .shift) (a .start) (l .at) (l .inv .1) (c .before .before .next-of .ensures) (c .enum-told .given .1)
 
 add-r : tie.Need-add-r Inv-loop μ-loop
 add-r c =
@@ -39,7 +39,7 @@ returns-2 c =
     let l = n .before .before .before .loop in
     let a = n .before .before .before .before .before .before .args in
     c .first-flags-of .ensures
-    ∙ first-here (now (a .m)) (a .d) (now (a .b)) (a .shift) (l .at) (l .inv .1) (n .before .before .next-of .ensures)
+    ∙ first-here (now (a .m)) (a .d) (now (a .b)) (a .shift) (a .start) (l .at) (l .inv .1) (n .before .before .next-of .ensures)
     (n .n .given .0 .0) (n .n .given .0 .1 .0) (n .n .given .1) (c .before .before .field .result) (c .before .before .field .ensures) (c .before .if1 .taken)
 
 loop-less : tie.Need-loop-less Inv-loop μ-loop
@@ -55,7 +55,7 @@ loop-again c =
     let l = n .before .before .before .loop in
     let a = n .before .before .before .before .before .before .args in (
       next-run (now (a .b)) (l .at) (n .before .before .next-of .ensures) (n .n .given .1) .inner,
-      first-past (now (a .m)) (a .d) (now (a .b)) (a .shift) (l .at) (l .inv .1) (n .before .before .next-of .ensures)
+      first-past (now (a .m)) (a .d) (now (a .b)) (a .shift) (a .start) (l .at) (l .inv .1) (n .before .before .next-of .ensures)
           (n .n .given .0 .0) (n .n .given .0 .1 .0) (n .n .given .1) (c .before .field .result) (c .before .field .ensures) (c .if1 .left),
     )
 

@@ -10,19 +10,22 @@ use Rattle.fragment.proofs.runs.survey_runs.Statement.{statement}
 use Rattle.fragment.proofs.runs.survey_runs.Tie as tie
 
 abbrev Inv-loop : tie.InvT-loop
-Inv-loop m b shift base at₀ clash₀ samples₀ at clash samples = Surveyed base m b shift at (ruleOf clash) samples
+Inv-loop m b shift start base at₀ clash₀ samples₀ at clash samples = Surveyed base m b shift start at (ruleOf clash) samples
 
 abbrev μ-loop : tie.MeasureT-loop
-μ-loop m b shift base at₀ clash₀ samples₀ at clash samples = length b - at
+μ-loop m b shift start base at₀ clash₀ samples₀ at clash samples = length b - at
 
 loop-holds : tie.Need-loop-holds Inv-loop μ-loop
-loop-holds c = let a = c .before .before .args in surveyed-none (a .base) (now (a .m)) (now (a .b)) (a .shift)
+loop-holds c =
+    let s = c .before .before in
+    let a = s .args in
+    surveyed-none (a .base) (now (a .m)) (now (a .b)) (a .shift) (a .start) (s .pre .1)
 
 returns : tie.Need-returns Inv-loop μ-loop
 returns c =
     let l = c .before .before .before .loop in
     let a = c .before .before .before .before .before .before .args in
-    surveyed-all (a .base) (now (a .m)) (now (a .b)) (a .shift) (l .at) (ruleOf (l .clash)) (l .samples) (l .inv) (c .before .before .next-of .ensures) (c .enum-told .given .1)
+    surveyed-all (a .base) (now (a .m)) (now (a .b)) (a .shift) (a .start) (l .at) (ruleOf (l .clash)) (l .samples) (l .inv) (c .before .before .next-of .ensures) (c .enum-told .given .1)
 
 add-r : tie.Need-add-r Inv-loop μ-loop
 add-r c =
@@ -41,7 +44,7 @@ returns-2 c =
     let n = c .before .before .before .before in
     let l = n .before .before .before .loop in
     let a = n .before .before .before .before .before .before .args in
-    surveyed-wrong (a .base) (now (a .m)) (now (a .b)) (a .shift) (l .at) (ruleOf (l .clash)) (l .samples) (l .inv) (n .before .before .next-of .ensures)
+    surveyed-wrong (a .base) (now (a .m)) (now (a .b)) (a .shift) (a .start) (l .at) (ruleOf (l .clash)) (l .samples) (l .inv) (n .before .before .next-of .ensures)
     (n .n .given .0 .0) (n .n .given .0 .1 .0) (n .n .given .1) (c .before .before .read-trun .ensures) (c .enum-told2 .given .1)
 
 add-samples : tie.Need-add-samples Inv-loop μ-loop
@@ -64,7 +67,7 @@ loop-again c =
     let n = t .before .before .before .before in
     let l = n .before .before .before .loop in
     let a = n .before .before .before .before .before .before .args in
-    surveyed-more (a .base) (now (a .m)) (now (a .b)) (a .shift) (l .at) (ruleOf (l .clash)) (l .samples) (l .inv) (n .before .before .next-of .ensures)
+    surveyed-more (a .base) (now (a .m)) (now (a .b)) (a .shift) (a .start) (l .at) (ruleOf (l .clash)) (l .samples) (l .inv) (n .before .before .next-of .ensures)
     (n .n .given .0 .0) (n .n .given .0 .1 .0) (n .n .given .1) (t .before .before .read-trun .ensures)
     (t .run .given .0 .0) (t .run .given .0 .1 .0) (c .before .before .apart .result) (ruleOf (c .before .must .result)) (t .run .given .1)
     (omega (arith, c .before .before .before .known-told2 .given)) (c .before .before .apart .ensures) (c .before .must .ensures) (ruleOf (c .first-of .result)) (c .first-of .ensures)

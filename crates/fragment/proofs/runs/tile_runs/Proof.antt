@@ -11,23 +11,23 @@ use Rattle.fragment.proofs.runs.tile_runs.Statement.{statement}
 use Rattle.fragment.proofs.runs.tile_runs.Tie as tie
 
 abbrev Inv-loop : tie.InvT-loop
-Inv-loop m b shift base d from at₀ first₀ ticks₀ bytes₀ tiled₀ at first ticks bytes tiled =
-    Tiled base m d from b shift at first ticks bytes (ruleOf tiled)
+Inv-loop m b shift start base d from at₀ first₀ ticks₀ bytes₀ tiled₀ at first ticks bytes tiled =
+    Tiled base m d from b shift start at first ticks bytes (ruleOf tiled)
 
 abbrev μ-loop : tie.MeasureT-loop
-μ-loop m b shift base d from at₀ first₀ ticks₀ bytes₀ tiled₀ at first ticks bytes tiled = length b - at
+μ-loop m b shift start base d from at₀ first₀ ticks₀ bytes₀ tiled₀ at first ticks bytes tiled = length b - at
 
 loop-holds : tie.Need-loop-holds Inv-loop μ-loop
 loop-holds c =
     let s = c .before .before in
     let a = s .args in
-    tiled-none (a .base) (now (a .m)) (a .d) (a .from) (now (a .b)) (a .shift) (s .pre .1)
+    tiled-none (a .base) (now (a .m)) (a .d) (a .from) (now (a .b)) (a .shift) (a .start) (s .pre .1) (s .pre .0 .1)
 
 returns : tie.Need-returns Inv-loop μ-loop
 returns c =
     let l = c .before .before .before .loop in
     let a = c .before .before .before .before .before .before .args in
-    tiled-all (a .base) (now (a .m)) (a .d) (a .from) (now (a .b)) (a .shift) (l .at) (l .first) (l .ticks) (l .bytes) (l .tiled) (l .inv)
+    tiled-all (a .base) (now (a .m)) (a .d) (a .from) (now (a .b)) (a .shift) (a .start) (l .at) (l .first) (l .ticks) (l .bytes) (l .tiled) (l .inv)
     (c .before .before .next-of .ensures) (c .enum-told .given .1)
 
 add-r : tie.Need-add-r Inv-loop μ-loop
@@ -59,7 +59,7 @@ run-sums-requires c κs =
       arith,
       s .pre,
       next-run (now (a .b)) (l .at) (n .before .before .next-of .ensures) (n .n .given .1),
-      tiled-few (a .base) (now (a .m)) (a .d) (a .from) (now (a .b)) (a .shift) (l .at) (l .first) (l .ticks) (l .bytes) (l .tiled) (l .inv)
+      tiled-few (a .base) (now (a .m)) (a .d) (a .from) (now (a .b)) (a .shift) (a .start) (l .at) (l .first) (l .ticks) (l .bytes) (l .tiled) (l .inv)
           (n .before .before .next-of .ensures) (n .n .given .0 .0) (n .n .given .0 .1 .0) (n .n .given .1),
     )
 
@@ -72,7 +72,7 @@ add-ticks c =
       arith,
       l .inv .ticksLow,
       c .before .run-sums .ensures .0 .small,
-      tiled-few (a .base) (now (a .m)) (a .d) (a .from) (now (a .b)) (a .shift) (l .at) (l .first) (l .ticks) (l .bytes) (l .tiled) (l .inv)
+      tiled-few (a .base) (now (a .m)) (a .d) (a .from) (now (a .b)) (a .shift) (a .start) (l .at) (l .first) (l .ticks) (l .bytes) (l .tiled) (l .inv)
           (n .before .before .next-of .ensures) (n .n .given .0 .0) (n .n .given .0 .1 .0) (n .n .given .1),
     )
 
@@ -85,7 +85,7 @@ add-bytes c =
       arith,
       l .inv .bytesLow,
       c .before .before .run-sums .ensures .1 .small,
-      tiled-few (a .base) (now (a .m)) (a .d) (a .from) (now (a .b)) (a .shift) (l .at) (l .first) (l .ticks) (l .bytes) (l .tiled) (l .inv)
+      tiled-few (a .base) (now (a .m)) (a .d) (a .from) (now (a .b)) (a .shift) (a .start) (l .at) (l .first) (l .ticks) (l .bytes) (l .tiled) (l .inv)
           (n .before .before .next-of .ensures) (n .n .given .0 .0) (n .n .given .0 .1 .0) (n .n .given .1),
     )
 
@@ -102,7 +102,7 @@ loop-again c =
     let n = t .before .before .before .before .before in
     let l = n .before .before .before .loop in
     let a = n .before .before .before .before .before .before .args in
-    tiled-more (a .base) (now (a .m)) (a .d) (a .from) (now (a .b)) (a .shift) (l .at) (l .first) (l .ticks) (l .bytes) (l .tiled) (l .inv)
+    tiled-more (a .base) (now (a .m)) (a .d) (a .from) (now (a .b)) (a .shift) (a .start) (l .at) (l .first) (l .ticks) (l .bytes) (l .tiled) (l .inv)
     (n .before .before .next-of .ensures) (n .n .given .0 .0) (n .n .given .0 .1 .0) (n .n .given .1)
     (t .before .before .before .placed .result) (ruleOf (t .before .before .must .result)) (ruleOf (t .before .first-of .result)) (t .run-sums .result .ticks) (t .run-sums .result .bytes)
     (t .before .before .before .placed .ensures) (t .before .before .must .ensures) (t .before .first-of .ensures) (t .run-sums .ensures .0) (t .run-sums .ensures .1)
