@@ -7,7 +7,7 @@
 #   bench      time beside the Rust reference                             (cargo, gcc; x86-64)
 #   c-example  a C program against the header and the archive             (a C compiler for x86-64)
 #   samples    the stored tracks of real encoders, good and damaged       (python3)
-#   vectors    writes the gate's cases anew: the reference's and the samples' (cargo, python3)
+#   vectors    writes the gate's cases anew: the reference's, the samples', the fuzzer's (cargo, python3)
 
 CASES ?= 100000
 SEED ?= 1
@@ -81,3 +81,5 @@ vectors:
 	cp rust/vectors/cases.bin crates/vectors/stdin
 	cp rust/vectors/expected.txt crates/vectors/stdout
 	samples/cases crates/vectors/stdin crates/vectors/stdout
+	cat rust/vectors/fuzz-cases.bin >> crates/vectors/stdin
+	cat rust/vectors/fuzz-expected.txt >> crates/vectors/stdout

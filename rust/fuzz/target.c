@@ -1,0 +1,147 @@
+/*
+ * The fuzz target: one input through the checker and through the judge, which must agree.
+ *
+ * Input: byte 0 says the job (modulo 3: index, track, set) and at which end of its memory the slice
+ * stands (by 3, modulo 2); bytes 1 and 2 are the table's length in numbers, big-endian, modulo 16,385;
+ * the rest is the slice. The table holds 7 i + 1 at i before the call.
+ *
+ * Slice and table each stand in memory of their own, at its end or at its start, with pages around
+ * it that nobody may touch. So a read or a write outside ends the run, in an archive that no
+ * sanitizer has seen too.
+ */
+#include <stdint.h>
+#include <stdio.h>
+#include <stdlib.h>
+#include <string.h>
+#include <sys/mman.h>
+#include <unistd.h>
+
+#include "target.h"
+
+typedef void check(const uint8_t *data, size_t len, uint64_t *table, size_t room, uint64_t *verdict);
+
+check flangemint_index, flangemint_track, flangemint_set;
+check judge_index, judge_track, judge_set;
+
+enum { JOBS = 3, MOST_ROOM = 16384, MOST_BYTES = 1 << 20, CANARY = 4 };
+
+static const struct {
+    const char *name;
+    check *checker, *judge;
+} jobs[JOBS] = {
+    {"index", flangemint_index, judge_index},
+    {"track", flangemint_track, judge_track},
+    {"set", flangemint_set, judge_set},
+};
+
+/* Memory between two pages that may not be touched; `most` is rounded up to whole pages. */
+struct lent {
+    uint8_t *start;
+    size_t most;
+};
+
+static struct lent lend(size_t most)
+{
+    size_t page = (size_t)sysconf(_SC_PAGESIZE);
+    size_t inside = (most + page - 1) / page * page;
+    uint8_t *all = mmap(NULL, inside + 2 * page, PROT_NONE, MAP_PRIVATE | MAP_ANONYMOUS, -1, 0);
+    if (all == MAP_FAILED || mprotect(all + page, inside, PROT_READ | PROT_WRITE) != 0) {
+        perror("memory for the target");
+        exit(2);
+    }
+    return (struct lent){all + page, inside};
+}
+
+static uint8_t *part(struct lent lent, size_t length, int at_end)
+{
+    return at_end ? lent.start + lent.most - length : lent.start;
+}
+
+static void tell(const char *who, const uint64_t *v, const uint64_t *table, size_t room)
+{
+    fprintf(stderr, "%s: number %llu track %llu place %llu count %llu timescale %llu; table sum %llu\n", who,
+            (unsigned long long)v[0], (unsigned long long)v[1], (unsigned long long)v[2],
+            (unsigned long long)v[3], (unsigned long long)v[4], (unsigned long long)table_sum(table, room));
+}
+
+static void disagree(const char *what, const char *job, size_t len, size_t room, const uint64_t *v,
+                     const uint64_t *table, const uint64_t *w, const uint64_t *other)
+{
+    fprintf(stderr, "DISAGREEMENT in %s: %s, %zu bytes, room %zu\n", what, job, len, room);
+    tell("checker", v, table, room);
+    tell("judge", w, other, room);
+    for (size_t i = 0; i < room; i++)
+        if (table[i] != other[i]) {
+            fprintf(stderr, "table[%zu]: checker %llu, judge %llu\n", i, (unsigned long long)table[i],
+                    (unsigned long long)other[i]);
+            break;
+        }
+    abort();
+}
+
+uint64_t table_sum(const uint64_t *table, size_t room)
+{
+    unsigned __int128 sum = 0;
+    for (size_t i = 0; i < room; i++)
+        sum = (31 * sum + table[i]) % 1000000007u;
+    return (uint64_t)sum;
+}
+
+int split_input(const uint8_t *input, size_t size, struct split *split)
+{
+    if (size < HEAD || size - HEAD > MOST_BYTES)
+        return 0;
+    split->job = input[0] % JOBS;
+    split->at_end = input[0] / JOBS % 2 == 0;
+    split->room = (input[1] * 256u + input[2]) % (MOST_ROOM + 1);
+    split->slice = input + HEAD;
+    split->len = size - HEAD;
+    return 1;
+}
+
+const uint64_t *judged(const struct split *s, uint64_t verdict[5])
+{
+    static uint64_t table[MOST_ROOM];
+    for (size_t i = 0; i < s->room; i++)
+        table[i] = 7 * i + 1;
+    jobs[s->job].judge(s->slice, s->len, table, s->room, verdict);
+    return table;
+}
+
+int LLVMFuzzerTestOneInput(const uint8_t *input, size_t size)
+{
+    static struct lent bytes, numbers;
+    if (bytes.start == NULL) {
+        bytes = lend(MOST_BYTES);
+        numbers = lend(MOST_ROOM * sizeof(uint64_t));
+    }
+    struct split s;
+    if (!split_input(input, size, &s))
+        return 0;
+
+    uint64_t expected[5];
+    const uint64_t *other = judged(&s, expected);
+
+    uint8_t *slice = part(bytes, s.len, s.at_end);
+    memcpy(slice, s.slice, s.len);
+    uint64_t *table = (uint64_t *)part(numbers, s.room * sizeof(uint64_t), s.at_end);
+    for (size_t i = 0; i < s.room; i++)
+        table[i] = 7 * i + 1;
+    uint64_t around[CANARY + 5 + CANARY];
+    memset(around, 0xa5, sizeof around);
+    uint64_t *verdict = around + CANARY;
+
+    jobs[s.job].checker(slice, s.len, table, s.room, verdict);
+
+    const char *name = jobs[s.job].name;
+    if (memcmp(verdict, expected, sizeof expected) != 0)
+        disagree("the verdict", name, s.len, s.room, verdict, table, expected, other);
+    if (memcmp(table, other, s.room * sizeof(uint64_t)) != 0)
+        disagree("the table", name, s.len, s.room, verdict, table, expected, other);
+    if (memcmp(slice, s.slice, s.len) != 0)
+        disagree("the lent bytes", name, s.len, s.room, verdict, table, expected, other);
+    for (size_t i = 0; i < CANARY; i++)
+        if (around[i] != 0xa5a5a5a5a5a5a5a5u || verdict[5 + i] != 0xa5a5a5a5a5a5a5a5u)
+            disagree("what stands around the verdict", name, s.len, s.room, verdict, table, expected, other);
+    return 0;
+}

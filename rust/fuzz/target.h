@@ -1,0 +1,27 @@
+#ifndef TARGET_H
+#define TARGET_H
+
+#include <stddef.h>
+#include <stdint.h>
+
+/* Bytes of an input before the slice. */
+enum { HEAD = 3 };
+
+struct split {
+    unsigned job;
+    int at_end;
+    size_t room;
+    const uint8_t *slice;
+    size_t len;
+};
+
+/* Takes an input apart; 0 where it is too short or too long. */
+int split_input(const uint8_t *input, size_t size, struct split *split);
+
+/* The judge's verdict, and its table after the call. */
+const uint64_t *judged(const struct split *split, uint64_t verdict[5]);
+
+/* The sum over a table that rust/vectors has. */
+uint64_t table_sum(const uint64_t *table, size_t room);
+
+#endif
