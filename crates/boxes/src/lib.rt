@@ -19,20 +19,23 @@ use rules::Look;
 use rules::Path;
 use rules::Seen;
 ghost use mathlib.Core.Path.{_≡_};
+ghost use Prim.Native.Nat.{_-_, _≤_};
 ghost use lib.ListN.{length};
 ghost use Rattle.rules.specs.Kinds.{isMedia, named};
 ghost use Rattle.rules.specs.Boxes.{look, sized, inside, again};
 ghost use Rattle.boxes.specs.Bounds.{lookBounds};
 ghost use Rattle.boxes.specs.Siblings.{nextOf, Tallied};
 
-// A header of some bytes that says a size, where `left` bytes remain.
-fn sized(left: usize, head: usize, size: usize, kind: u32) -> Look
-    ensures { λ r. ⌜ r ≡ sized left head size kind ⌝ }
+// A header of some bytes that says a size, at a place of a slice of a length. The size is compared with the bytes that are left:
+// its sum with the place may not fit.
+fn sized(length: usize, at: usize, head: usize, size: usize, kind: u32) -> Look
+    requires { ⌜ at ≤ length ⌝ }
+    ensures { λ r. ⌜ r ≡ sized (length - at) head size kind ⌝ }
 {
     if size < head {
         return Look::Small;
     }
-    if left < size {
+    if length - at < size {
         return Look::Beyond;
     }
     Look::Header { head, size, kind }
@@ -50,8 +53,8 @@ pub fn look(s: &[u8], at: usize) -> Look
     if left < 8 {
         return Look::Short;
     }
-    let short = numbers::be4(s, at);
-    let kind = numbers::be4(s, at + 4);
+    let short = numbers::near4(s, at);
+    let kind = numbers::near4(s, at + 4);
     let mut head = 8;
     let mut size = short as usize;
     if short == 1 {
@@ -59,9 +62,9 @@ pub fn look(s: &[u8], at: usize) -> Look
             return Look::Short;
         }
         head = 16;
-        size = numbers::be8(s, at + 8) as usize;
+        size = numbers::near8(s, at + 8) as usize;
     }
-    sized(left, head, size, kind)
+    sized(s.len(), at, head, size, kind)
 }
 
 // What a box type is on a path: a type that no rule names is passed over.

@@ -10,7 +10,11 @@ use borrow.Author.Tests.{eq-eqb, ne-eqb}
 use Rattle.numbers.specs.Numbers.{byte, be2, be3, be4, be8}
 use Rattle.numbers.proofs.Bounds.{past, Reads}
 use Rattle.rules.specs.Boxes.{part, headOf, sizeOf}
+use Rattle.rules.specs.Header.{shortSize, version}
+use Rattle.rules.specs.Fragment.{flagsOf}
 use Rattle.fields.specs.Behind.{Behind}
+use Rattle.fields.specs.Full.{FullAt}
+use Rattle.fields.specs.declared.Full.{Full}
 
 -- size 1: the header is 16 bytes, and an 8-byte size follows the type
 pub head-long : (s : List ℕ) (at : ℕ) → be4 s at ≡ 1 → headOf s at ≡ 16
@@ -28,6 +32,20 @@ size-long s at e = rw (eq-eqb _ _ e)
 pub size-short : (s : List ℕ) (at : ℕ) → (be4 s at ≡ 1 → ⊥) → sizeOf s at ≡ be4 s at
 unfolding sizeOf
 size-short s at e = rw (ne-eqb _ _ e)
+
+-- the head of a full box whose header is short
+pub full-short : (s : List ℕ) (at : ℕ) (f : Full) → (be4 s at ≡ 1 → ⊥) → f .head ≡ 8 → f .size ≡ be4 s at - 8 + 8 → f .version ≡ byte s (at + 8)
+    → f .flags ≡ be3 s (at + 8 + 1) → f .flags < 16777216 → FullAt s at f
+unfolding shortSize version flagsOf
+full-short s at f e h z v b low =
+    record {
+      head = rw (head-short s at e) h;
+      size = rw (head-short s at e, size-short s at e) z;
+      version = rw (head-short s at e) v;
+      flags = rw (head-short s at e) b;
+      headLow = rw h (omega arith);
+      flagsLow = low;
+    }
 
 -- past the end every number is 0
 pub past3 : (s : List ℕ) (i : ℕ) → length s ≤ i → be3 s i ≡ 0

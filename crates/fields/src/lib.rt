@@ -8,6 +8,7 @@ ghost use Rattle.rules.specs.Boxes.{part, headOf, sizeOf, whole, body};
 ghost use Rattle.rules.specs.Header.{shortSize, version, field, versioned, plain, atLeast};
 ghost use Rattle.rules.specs.Fragment.{flagsOf};
 ghost use Rattle.fields.specs.Behind.{Behind};
+ghost use Rattle.fields.specs.Full.{FullAt};
 
 // The header length of the box at a place.
 pub fn head_of(s: &[u8], at: usize) -> usize
@@ -141,16 +142,50 @@ pub fn short_size(s: &[u8], at: usize) -> u64
     less(size, head as u64) + 8
 }
 
+// The head of a full box: its header's length, its size with the short header, its version and its flags.
+pub struct Full {
+    pub head: usize,
+    pub size: u64,
+    pub version: u8,
+    pub flags: u32,
+}
+
+// The head of the full box at a place: by one range test where its header is short, else field by field.
+pub fn full_at(s: &[u8], at: usize) -> Full
+    ensures { λ r. ⌜ FullAt (now (s .entry)) at r ⌝ }
+{
+    if 12 <= s.len() {
+        if at <= s.len() - 12 {
+            let size = numbers::near4(s, at);
+            if size != 1 {
+                let p = at + 8;
+                return Full {
+                    head: 8,
+                    size: less(size as u64, 8) + 8,
+                    version: s[p],
+                    flags: numbers::near3(s, p + 1),
+                };
+            }
+        }
+    }
+    Full {
+        head: head_of(s, at),
+        size: short_size(s, at),
+        version: version(s, at),
+        flags: flags_of(s, at),
+    }
+}
+
 // Whether the box has size a for version 0, size b for version 1, and no other version.
 pub fn versioned(s: &[u8], at: usize, a: u64, b: u64) -> bool
     ensures { λ r. ⌜ r ≡ versioned (now (s .entry)) at a b ⌝ }
 {
-    let v = version(s, at);
-    if v == 0 {
-        return short_size(s, at) == a;
+    let f = full_at(s, at);
+    if f.version == 0 {
+        return f.size == a;
     }
-    if v == 1 {
-        return short_size(s, at) == b;
+    if f.version == 1 {
+        return f.size == b;
     }
     false
 }
@@ -159,9 +194,9 @@ pub fn versioned(s: &[u8], at: usize, a: u64, b: u64) -> bool
 pub fn plain(s: &[u8], at: usize, a: u64) -> bool
     ensures { λ r. ⌜ r ≡ plain (now (s .entry)) at a ⌝ }
 {
-    let v = version(s, at);
-    if v == 0 {
-        return short_size(s, at) == a;
+    let f = full_at(s, at);
+    if f.version == 0 {
+        return f.size == a;
     }
     false
 }

@@ -19,7 +19,8 @@ use Rattle.fragment.specs.Bodies.{Says}
 use Rattle.fragment.specs.Counts.{Stand}
 use Rattle.fragment.specs.Told.{ruleOf}
 use Rattle.fragment.specs.Runs.{Tiles}
-use Rattle.fragment.specs.Layout.{defaultsFrom, defaultsAt}
+use Rattle.fragment.specs.Layout.{defaultsFrom, defaultsAt, defaultsBehind}
+use Rattle.rules.specs.Header.{field}
 use Rattle.fragment.specs.Shape.{settled}
 use Rattle.fragment.specs.declared.bodies.Body.{Body}
 use Rattle.fragment.specs.declared.counts.Moof.{Moof}
@@ -45,7 +46,7 @@ settled-few base id tfhd traf k e =
 
 -- the defaults of the fragment's `tfhd`
 defaults-are : (m : List ℕ) (d : Defaults) (at : ℕ) → at ≡ tfhdIn m → defaultsAt m at d ≡ defaultsIn m d
-unfolding defaultsAt defaultsFrom defaultsIn
+unfolding defaultsAt defaultsBehind defaultsFrom defaultsIn field
 defaults-are m d at e = rw e
 
 pub rule19-is :

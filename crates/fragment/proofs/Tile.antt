@@ -66,12 +66,12 @@ module _ (base : ℕ) (m : List ℕ) (d : Defaults) (from : ℕ) (b : List ℕ) 
     tiled-few = omega (arith, s .ticksLow, ap (samplesOf m) (runs-next b at says shift e))
 
     pub tiled-more :
-        (own : Bool) (bad next : Rule) (t u : ℕ) → own ≡ placed first m (shift + p) (from + bytes) →
-        bad ≡ must own 22 (base + (shift + p)) → next ≡ (ruleOf w then bad) →
+        (own : Bool) (next : Rule) (t u : ℕ) → own ≡ placed first m (shift + p) (from + bytes) →
+        next ≡ (ruleOf w then must own 22 (base + (shift + p))) →
         Summed (durationOf m d (shift + p)) (countOf m (shift + p)) t → Summed (bytesOf m d (shift + p)) (countOf m (shift + p)) u →
         Tiled base m d from b shift start q false (ticks + t) (bytes + u) next
     unfolding samplesOf durationsOf bytesIn runDuration runBytes rule22runs
-    tiled-more own bad next t u o k n v z =
+    tiled-more own next t u o n v z =
         let more = runs-next b at says shift e in
         let rest = runsAt b shift q in
         let place : from + bytes + runBytes m d (shift + p) ≡ from + (bytes + u) = omega (arith, z .total) in
@@ -82,7 +82,7 @@ module _ (base : ℕ) (m : List ℕ) (d : Defaults) (from : ℕ) (b : List ℕ) 
               s .tiledAll
               ∙ ap (λ (rs : List ℕ). ruleOf w then rule22runs base m d first (from + bytes) rs) more
               ∙ ap (λ (y : ℕ). ruleOf w then (must (placed first m (shift + p) (from + bytes)) 22 (base + (shift + p)) then rule22runs base m d false y rest)) place
-              ∙ rw (← o, ← k, n) (sym (then-assoc (ruleOf w) bad (rule22runs base m d false (from + (bytes + u)) rest)));
+              ∙ rw (← o, n) (sym (then-assoc (ruleOf w) (must own 22 (base + (shift + p))) (rule22runs base m d false (from + (bytes + u)) rest)));
           ticksLow = omega (arith, s .ticksLow, ap (samplesOf m) more, v .small);
           bytesLow = omega (arith, s .bytesLow, ap (samplesOf m) more, z .small);
           inner = next-run b at says e .inner;

@@ -1,10 +1,9 @@
 // Where the fields of a fragment's boxes stand, by the flags of each.
 ghost use mathlib.Core.Path.{_≡_};
 ghost use Prim.Native.Nat.{_+_, _<_, _≤_};
-ghost use Rattle.numbers.specs.Numbers.{when};
-ghost use Rattle.rules.specs.Header.{field};
+ghost use Rattle.numbers.specs.Numbers.{be4, when};
 ghost use Rattle.rules.specs.Fragment.{bytesFor, tfhdSize, runHead, stride};
-ghost use Rattle.fragment.specs.Layout.{defaultsFrom, defaultsAt};
+ghost use Rattle.fragment.specs.Layout.{defaultsFrom, defaultsBehind, defaultsAt};
 use rules::Defaults;
 
 // n bytes where a flag is set.
@@ -49,28 +48,33 @@ fn defaults_from(flags: u32) -> usize
     8 + bytes_for(8, flags, 0x1) + bytes_for(4, flags, 0x2)
 }
 
-// The four-byte field behind the header where a flag is set, else the default.
-fn own(m: &[u8], at: usize, set: bool, k: usize, default: u32) -> u32
-    ensures { λ r. ⌜ r ≡ when set (field (now (m .entry)) at k) default ⌝ }
+// The number in the four bytes at a place where a flag is set, else the default.
+fn own(m: &[u8], p: usize, set: bool, default: u32) -> u32
+    ensures { λ r. ⌜ r ≡ when set (be4 (now (m .entry)) p) default ⌝ }
 {
-    if set {
-        fields::field(m, at, k)
-    } else {
-        default
+    if set { numbers::be4(m, p) } else { default }
+}
+
+// The defaults of a `tfhd` with these flags whose header ends at a place, else those of `trex`.
+pub fn defaults_behind(m: &[u8], p: usize, flags: u32, d: Defaults) -> Defaults
+    requires { ⌜ p ≤ 34359738368 ⌝ }
+    ensures { λ r. ⌜ r ≡ defaultsBehind (now (m .entry)) p flags d ⌝ }
+{
+    let duration = defaults_from(flags);
+    let size = duration + bytes_for(4, flags, 0x8);
+    let sync = size + bytes_for(4, flags, 0x10);
+    Defaults {
+        duration: own(m, p + duration, numbers::has(flags, 0x8), d.duration),
+        size: own(m, p + size, numbers::has(flags, 0x10), d.size),
+        flags: own(m, p + sync, numbers::has(flags, 0x20), d.flags),
     }
 }
 
 // The defaults of the `tfhd` at a place, else those of `trex`.
 pub fn defaults_at(m: &[u8], at: usize, d: Defaults) -> Defaults
+    requires { ⌜ at ≤ 17179869184 ⌝ }
     ensures { λ r. ⌜ r ≡ defaultsAt (now (m .entry)) at d ⌝ }
 {
-    let flags = fields::flags_of(m, at);
-    let duration = defaults_from(flags);
-    let size = duration + bytes_for(4, flags, 0x8);
-    let sync = size + bytes_for(4, flags, 0x10);
-    Defaults {
-        duration: own(m, at, numbers::has(flags, 0x8), duration, d.duration),
-        size: own(m, at, numbers::has(flags, 0x10), size, d.size),
-        flags: own(m, at, numbers::has(flags, 0x20), sync, d.flags),
-    }
+    let f = fields::full_at(m, at);
+    defaults_behind(m, at + f.head, f.flags, d)
 }

@@ -5,6 +5,7 @@ ghost use Prim.Native.Nat.{_+_, _≤_};
 ghost use lib.ListN.{length};
 ghost use Rattle.numbers.specs.Numbers.{has};
 ghost use Rattle.rules.specs.Fragment.{samplesOf, firstFlagsOf, firstFlags, placed};
+ghost use Rattle.fragment.specs.Layout.{firstFlagsBehind, placedBehind};
 ghost use Rattle.fragment.specs.Runs.{runsAt, saysTrun, saysSurvey, Tiles};
 use crate::layout;
 use crate::samples;
@@ -35,17 +36,17 @@ pub struct Tiling {
 
 // The `trun` at a place: version 0 or 1, sized by its flags and its samples.
 fn read_trun(m: &[u8], r: usize) -> Trun
+    requires { ⌜ r ≤ 17179869184 ⌝ }
     ensures { λ a. ⌜ saysTrun a (now (m .entry)) r ⌝ }
 {
-    let version = fields::version(m, r);
-    if 1 < version {
+    let f = fields::full_at(m, r);
+    if 1 < f.version {
         return Trun::Wrong;
     }
-    let flags = fields::flags_of(m, r);
-    let count = fields::field(m, r, 4);
+    let flags = f.flags;
+    let count = numbers::be4(m, r + f.head + 4);
     let own = layout::stride(flags) as u64 * count as u64;
-    let size = fields::short_size(m, r);
-    if size == 8 + layout::run_head(flags) as u64 + own {
+    if f.size == 8 + layout::run_head(flags) as u64 + own {
         Trun::Run { flags, count }
     } else {
         Trun::Wrong
@@ -82,27 +83,36 @@ pub fn survey_runs(m: &[u8], b: &[u8], shift: usize, start: usize, base: u64) ->
         let Trun::Run { flags, count } = run else {
             return Survey::Missized(stands);
         };
-        clash = told::first_of(clash, told::must(apart(flags), 16, stands));
+        clash = told::also(clash, apart(flags), 16, stands);
         samples += count as u64;
         at = next;
     }
 }
 
-// The flags of the first sample of the run at a place.
-fn first_flags_of(m: &[u8], r: usize, d: Defaults) -> u32
-    ensures { λ a. ⌜ a ≡ firstFlagsOf (now (m .entry)) d r ⌝ }
+// The flags of the first sample of a run with these flags whose header ends at a place.
+pub fn first_flags_behind(m: &[u8], p: usize, flags: u32, d: Defaults) -> u32
+    requires { ⌜ p ≤ 34359738368 ⌝ }
+    ensures { λ a. ⌜ a ≡ firstFlagsBehind (now (m .entry)) p flags d ⌝ }
 {
-    let flags = fields::flags_of(m, r);
     if numbers::has(flags, 0x4) {
         let k = 8 + layout::bytes_for(4, flags, 0x1);
-        return fields::field(m, r, k);
+        return numbers::be4(m, p + k);
     }
     if numbers::has(flags, 0x400) {
         let ticks = layout::run_head(flags) + layout::bytes_for(4, flags, 0x100);
         let k = ticks + layout::bytes_for(4, flags, 0x200);
-        return fields::field(m, r, k);
+        return numbers::be4(m, p + k);
     }
     d.flags
+}
+
+// The flags of the first sample of the run at a place.
+fn first_flags_of(m: &[u8], r: usize, d: Defaults) -> u32
+    requires { ⌜ r ≤ 17179869184 ⌝ }
+    ensures { λ a. ⌜ a ≡ firstFlagsOf (now (m .entry)) d r ⌝ }
+{
+    let f = fields::full_at(m, r);
+    first_flags_behind(m, r + f.head, f.flags, d)
 }
 
 // The flags of the first sample of the runs from a start on: that of the first run that has one.
@@ -125,16 +135,26 @@ pub fn first_flags(m: &[u8], b: &[u8], shift: usize, start: usize, d: Defaults) 
     }
 }
 
-// Whether a run's data offset, signed, is the place e; the first run carries one, a later one may carry none.
-fn placed(first: bool, m: &[u8], r: usize, e: u64) -> bool
-    ensures { λ a. ⌜ a ≡ placed first (now (m .entry)) r e ⌝ }
+// Whether the data offset, signed, of a run with these flags whose header ends at a place is the place e; the first run carries one,
+// a later one may carry none.
+pub fn placed_behind(first: bool, m: &[u8], p: usize, flags: u32, e: u64) -> bool
+    requires { ⌜ p ≤ 34359738368 ⌝ }
+    ensures { λ a. ⌜ a ≡ placedBehind first (now (m .entry)) p flags e ⌝ }
 {
-    let flags = fields::flags_of(m, r);
     if numbers::has(flags, 0x1) {
-        let offset = numbers::signed(fields::field(m, r, 8));
+        let offset = numbers::signed(numbers::be4(m, p + 8));
         return numbers::is_place(offset, e);
     }
     !first
+}
+
+// Whether the data offset of the run at a place is the place e.
+fn placed(first: bool, m: &[u8], r: usize, e: u64) -> bool
+    requires { ⌜ r ≤ 17179869184 ⌝ }
+    ensures { λ a. ⌜ a ≡ placed first (now (m .entry)) r e ⌝ }
+{
+    let f = fields::full_at(m, r);
+    placed_behind(first, m, r + f.head, f.flags, e)
 }
 
 // The durations, sizes and offsets of the runs from a start on, where the first byte is at a place after the `moof` start.
@@ -167,7 +187,7 @@ pub fn tile_runs(
         };
         let r = shift + place;
         let own = placed(first, m, r, from + bytes);
-        tiled = told::first_of(tiled, told::must(own, 22, base + r as u64));
+        tiled = told::also(tiled, own, 22, base + r as u64);
         let sums = samples::run_sums(m, r, d);
         ticks += sums.ticks;
         bytes += sums.bytes;

@@ -154,8 +154,16 @@ pub fn run_sums(m: &[u8], at: usize, d: Defaults) -> Sums
     ensures { λ r. ⌜ Summed (durationOf (now (m .entry)) d at) (countOf (now (m .entry)) at) (r .ticks) ⌝ }
     ensures { λ r. ⌜ Summed (bytesOf (now (m .entry)) d at) (countOf (now (m .entry)) at) (r .bytes) ⌝ }
 {
-    let flags = fields::flags_of(m, at);
-    let n = fields::field(m, at, 4) as usize;
-    let from = at + fields::head_of(m, at) + layout::run_head(flags);
-    sums_of(m, from, layout::stride(flags), n, flags, d)
+    let f = fields::full_at(m, at);
+    let flags = f.flags;
+    let behind = at + f.head;
+    let n = numbers::be4(m, behind + 4) as usize;
+    sums_of(
+        m,
+        behind + layout::run_head(flags),
+        layout::stride(flags),
+        n,
+        flags,
+        d,
+    )
 }

@@ -29,3 +29,13 @@ pub fn must(test: bool, number: u64, place: u64) -> Told
         Told::Breaks { number, place }
     }
 }
+
+// The first rule if it breaks, else the test that must hold. Where the test holds nothing is made.
+pub fn also(a: Told, test: bool, number: u64, place: u64) -> Told
+    ensures { λ r. ⌜ ruleOf r ≡ (ruleOf a then must test number place) ⌝ }
+{
+    if test {
+        return a;
+    }
+    first_of(a, Told::Breaks { number, place })
+}

@@ -1,6 +1,7 @@
 // Big-endian numbers at any place of a slice. Every reader is total: a byte past the end reads as 0.
 ghost use mathlib.Core.Path.{_≡_};
 ghost use Prim.Native.Nat.{_+_, _*_, _<_, _≤_};
+ghost use lib.ListN.{length};
 ghost use Rattle.numbers.specs.Numbers.{byte, be2, be3, be4, be8, has, signed, isPlace};
 
 // The byte at a place.
@@ -52,6 +53,31 @@ fn eight(high: u32, low: u32) -> u64
     high as u64 * 4294967296 + low as u64
 }
 
+// The number in the three bytes at a place inside the slice.
+pub fn near3(s: &[u8], at: usize) -> u32
+    requires { ⌜ at + 3 ≤ length (now s) ⌝ }
+    ensures { λ r. ⌜ r ≡ be3 (now (s .entry)) at ⌝ }
+    ensures { λ r. ⌜ r < 16777216 ⌝ }
+{
+    three(s[at], s[at + 1], s[at + 2])
+}
+
+// The number in the four bytes at a place inside the slice.
+pub fn near4(s: &[u8], at: usize) -> u32
+    requires { ⌜ at + 4 ≤ length (now s) ⌝ }
+    ensures { λ r. ⌜ r ≡ be4 (now (s .entry)) at ⌝ }
+{
+    four(s[at], s[at + 1], s[at + 2], s[at + 3])
+}
+
+// The number in the eight bytes at a place inside the slice.
+pub fn near8(s: &[u8], at: usize) -> u64
+    requires { ⌜ at + 8 ≤ length (now s) ⌝ }
+    ensures { λ r. ⌜ r ≡ be8 (now (s .entry)) at ⌝ }
+{
+    eight(near4(s, at), near4(s, at + 4))
+}
+
 // Four bytes from n places after a place, each by itself: where some may stand past the end.
 fn slow4(s: &[u8], at: usize, n: usize) -> u32
     requires { ⌜ n ≤ 4 ⌝ }
@@ -85,7 +111,7 @@ pub fn be3(s: &[u8], at: usize) -> u32
 {
     if 3 <= s.len() {
         if at <= s.len() - 3 {
-            return three(s[at], s[at + 1], s[at + 2]);
+            return near3(s, at);
         }
     }
     three(byte(s, at), after(s, at, 1), after(s, at, 2))
@@ -97,7 +123,7 @@ pub fn be4(s: &[u8], at: usize) -> u32
 {
     if 4 <= s.len() {
         if at <= s.len() - 4 {
-            return four(s[at], s[at + 1], s[at + 2], s[at + 3]);
+            return near4(s, at);
         }
     }
     slow4(s, at, 0)
@@ -109,10 +135,7 @@ pub fn be8(s: &[u8], at: usize) -> u64
 {
     if 8 <= s.len() {
         if at <= s.len() - 8 {
-            let high = four(s[at], s[at + 1], s[at + 2], s[at + 3]);
-            let mid = at + 4;
-            let low = four(s[mid], s[mid + 1], s[mid + 2], s[mid + 3]);
-            return eight(high, low);
+            return near8(s, at);
         }
     }
     eight(slow4(s, at, 0), slow4(s, at, 4))

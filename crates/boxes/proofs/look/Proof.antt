@@ -13,14 +13,14 @@ returns-2 : tie.Need-returns-2
 returns-2 c = told _ _ _ (no-header _ _ (c .before .if1 .left) (c .if2 .taken))
 
 returns-3 : tie.Need-returns-3
-returns-3 c = told _ _ _ (no-long _ _ _ _ (c .before .before .before .before .before .if1 .left) (c .before .before .before .before .if2 .left) (c .before .before .before .be4 .ensures) (c .before .before .be42 .ensures) (c .before .if3 .taken) (c .if4 .taken))
+returns-3 c = told _ _ _ (no-long _ _ _ _ (c .before .before .before .before .before .if1 .left) (c .before .before .before .before .if2 .left) (c .before .before .before .near4 .ensures) (c .before .before .near42 .ensures) (c .before .if3 .taken) (c .if4 .taken))
 
 returns-4 : tie.Need-returns-4
 returns-4 c =
     let i = c .before .before .before .before .before .if1 .left in
     let l = c .before .before .before .before .if2 .left in
-    let a = c .before .before .before .be4 .ensures in
-    let k = c .before .before .be42 .ensures in
+    let a = c .before .before .before .near4 .ensures in
+    let k = c .before .before .near42 .ensures in
     told _ _ _
     (⊎-elim
     (λ w. long _ _ _ _ i l a k _ _ _ (w .0 .taken) (w .1 .left) (w .3) (w .4 ∙ w .2 .ensures) (c .sized .ensures))

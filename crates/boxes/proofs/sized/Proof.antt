@@ -1,3 +1,4 @@
+use borrow.Author.Needs.{needs}
 use borrow.Author.Tests.{lt-ltb, le-ltb}
 use Rattle.rules.specs.Boxes.{sized}
 use Rattle.boxes.proofs.sized.Statement.{statement}
@@ -16,4 +17,4 @@ unfolding sized
 returns-3 c = simp (le-ltb _ _ (c .before .if1 .left), le-ltb _ _ (c .if2 .left))
 
 pub sized-spec : {M : Type 1} → statement M
-sized-spec = tie.close (tie.spec returns returns-2 returns-3)
+sized-spec = tie.close (tie.spec returns (λ c. search needs) returns-2 returns-3)

@@ -7,11 +7,13 @@ use Rattle.fields.proofs.plain.Tie as tie
 
 returns : tie.Need-returns
 unfolding plain
-returns c = rw (← c .before .before .version .ensures, eq-eqb _ _ (c .before .if1 .taken), ← c .short-size .ensures)
+returns c =
+    let f = c .before .before .before .full-at .ensures in
+    rw (← f .version, eq-eqb _ _ (c .before .if1 .taken), ← f .size)
 
 returns-2 : tie.Need-returns-2
 unfolding plain
-returns-2 c = rw (← c .before .version .ensures, ne-eqb _ _ (c .if1 .left))
+returns-2 c = rw (← c .before .before .full-at .ensures .version, ne-eqb _ _ (c .if1 .left))
 
 pub plain-spec : {M : Type 1} → statement M
-plain-spec = tie.close (tie.spec (λ c κs. search needs) (λ c κs. search needs) returns returns-2)
+plain-spec = tie.close (tie.spec (λ c κs. search needs) returns returns-2)

@@ -1,5 +1,4 @@
 -- `fields::versioned` meets its contract. Assumes nothing.
-use mathlib.Core.Path.{_∙_, sym}
 use borrow.Author.Needs.{needs}
 use borrow.Author.Tests.{eq-eqb, ne-eqb}
 use Rattle.rules.specs.Header.{versioned}
@@ -8,18 +7,20 @@ use Rattle.fields.proofs.versioned.Tie as tie
 
 returns : tie.Need-returns
 unfolding versioned
-returns c = rw (← c .before .before .version .ensures, eq-eqb _ _ (c .before .if1 .taken), ← c .short-size .ensures)
+returns c =
+    let f = c .before .before .before .full-at .ensures in
+    rw (← f .version, eq-eqb _ _ (c .before .if1 .taken), ← f .size)
 
 returns-2 : tie.Need-returns-2
 unfolding versioned
 returns-2 c =
-    rw (← c .before .before .before .version .ensures, ne-eqb _ _ (c .before .before .if1 .left), eq-eqb _ _ (c .before .if2 .taken), ← c .short-size2 .ensures)
+    let f = c .before .before .before .before .before .full-at .ensures in
+    rw (← f .version, ne-eqb _ _ (c .before .before .before .if1 .left), eq-eqb _ _ (c .before .if2 .taken), ← f .size)
 
 returns-3 : tie.Need-returns-3
 unfolding versioned
 returns-3 c =
-    rw (← c .before .before .version .ensures, ne-eqb _ _ (c .before .if1 .left), ne-eqb _ _ (c .if2 .left))
+    rw (← c .before .before .before .before .full-at .ensures .version, ne-eqb _ _ (c .before .before .if1 .left), ne-eqb _ _ (c .if2 .left))
 
 pub versioned-spec : {M : Type 1} → statement M
-versioned-spec =
-    tie.close (tie.spec (λ c κs. search needs) (λ c κs. search needs) returns (λ c κs. search needs) returns-2 returns-3)
+versioned-spec = tie.close (tie.spec (λ c κs. search needs) returns returns-2 returns-3)

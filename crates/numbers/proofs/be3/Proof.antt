@@ -4,10 +4,6 @@ use Rattle.numbers.specs.Numbers.{be3}
 use Rattle.numbers.proofs.be3.Statement.{statement}
 use Rattle.numbers.proofs.be3.Tie as tie
 
-returns : tie.Need-returns
-unfolding be3
-returns c = search needs
-
 returns-2 : tie.Need-returns-2
 unfolding be3
 returns-2 c = search needs
@@ -17,13 +13,8 @@ be3-spec =
     tie.close
     (tie.spec
     (λ c. search needs)
-    (λ c. search needs)
-    (λ c. search needs)
-    (λ c. search needs)
-    (λ c. search needs)
-    (λ c. search needs)
     (λ c κs. search needs)
-    returns
+    (λ c. search needs)
     (λ c κs. search needs)
     (λ c κs. search needs)
     (λ c κs. search needs)

@@ -33,6 +33,12 @@ add-r c =
     let s = c .before .before .before .before .before .before .before in
     omega (arith, s .pre, next-run (now (s .args .b)) (l .at) (c .before .before .before .next-of .ensures) (c .before .n .given .1))
 
+first-flags-of-requires : tie.Need-first-flags-of-requires Inv-loop μ-loop
+first-flags-of-requires c κs =
+    let l = c .before .before .before .before .before .before .loop in
+    let s = c .before .before .before .before .before .before .before .before .before in
+    omega (arith, s .pre, next-run (now (s .args .b)) (l .at) (c .before .before .before .before .before .next-of .ensures) (c .before .before .before .n .given .1))
+
 returns-2 : tie.Need-returns-2 Inv-loop μ-loop
 returns-2 c =
     let n = c .before .before .before .before in
@@ -72,7 +78,7 @@ first-flags-spec =
     returns
     add-r
     (λ c κs. search needs)
-    (λ c κs. search needs)
+    first-flags-of-requires
     returns-2
     loop-less
     loop-again)

@@ -1,62 +1,18 @@
 -- `fragment::runs::first_flags_of` meets its contract. Assumes nothing.
-use native.Mathlib.Nat.{mul-zero, add-zero}
 use borrow.Author.Needs.{needs}
-use Rattle.rules.specs.Fragment.{firstFlagsOf, sampleAt}
+use Rattle.rules.specs.Header.{field}
+use Rattle.rules.specs.Fragment.{firstFlagsOf}
+use Rattle.fragment.specs.Layout.{firstFlagsBehind}
 use Rattle.fragment.proofs.runs.first_flags_of.Statement.{statement}
 use Rattle.fragment.proofs.runs.first_flags_of.Tie as tie
 
 returns : tie.Need-returns
-unfolding firstFlagsOf
+unfolding firstFlagsOf firstFlagsBehind field
 returns c =
-    let b = c .before .before in
-    rw (← b .before .before .flags-of .ensures .0, ← b .before .has .ensures, b .if1 .taken, ← c .before .bytes-for .ensures .0)
-    (c .field .ensures)
-
-returns-2 : tie.Need-returns-2
-unfolding firstFlagsOf sampleAt
-returns-2 c =
-    let b = c .before .before .before .before in
-    rw (
-      mul-zero,
-      add-zero,
-      ← b .before .before .before .before .flags-of .ensures .0,
-      ← b .before .before .before .has .ensures,
-      b .before .before .if1 .left,
-      ← b .before .has2 .ensures,
-      b .if2 .taken,
-      ← c .before .before .before .run-head .ensures .0,
-      ← c .before .before .bytes-for2 .ensures .0,
-      ← c .before .bytes-for3 .ensures .0,
-    )
-    (c .field2 .ensures)
-
-returns-3 : tie.Need-returns-3
-unfolding firstFlagsOf
-returns-3 c =
-    rw (
-      ← c .before .before .before .before .flags-of .ensures .0,
-      ← c .before .before .before .has .ensures,
-      c .before .before .if1 .left,
-      ← c .before .has2 .ensures,
-      c .if2 .left,
-    )
+    let f = c .before .before .full-at .ensures in
+    rw (← f .head, ← f .flags) (c .first-flags-behind .ensures)
 
 pub first-flags-of-spec : {M : Type 1} → statement M
 first-flags-of-spec =
     tie.close
-    (tie.spec
-    (λ c κs. search needs)
-    (λ c κs. search needs)
-    (λ c κs. search needs)
-    (λ c. search needs)
-    (λ c κs. search needs)
-    returns
-    (λ c κs. search needs)
-    (λ c κs. search needs)
-    (λ c κs. search needs)
-    (λ c. search needs)
-    (λ c κs. search needs)
-    (λ c. search needs)
-    (λ c κs. search needs)
-    returns-2
-    returns-3)
+    (tie.spec (λ c κs. search needs) (λ c. search needs) (λ c κs. search needs) returns)

@@ -39,6 +39,12 @@ add-stands c =
     let s = c .before .before .before .before .before .before .before in
     omega (arith, s .pre, next-run (now (s .args .b)) (l .at) (c .before .before .before .next-of .ensures) (c .before .n .given .1))
 
+read-trun-requires : tie.Need-read-trun-requires Inv-loop μ-loop
+read-trun-requires c κs =
+    let l = c .before .before .before .before .loop in
+    let s = c .before .before .before .before .before .before .before in
+    omega (arith, s .pre, next-run (now (s .args .b)) (l .at) (c .before .before .before .next-of .ensures) (c .before .n .given .1))
+
 returns-2 : tie.Need-returns-2 Inv-loop μ-loop
 returns-2 c =
     let n = c .before .before .before .before in
@@ -49,28 +55,28 @@ returns-2 c =
 
 add-samples : tie.Need-add-samples Inv-loop μ-loop
 add-samples c =
-    let n = c .before .before .before .before .before .before .before .before in
+    let n = c .before .before .before .before .before .before .before in
     let l = n .before .before .before .loop in
     let s = n .before .before .before .before .before .before in
-    omega (arith, s .pre, l .inv .few, l .inv .inner, c .before .before .before .known-told2 .given)
+    omega (arith, s .pre, l .inv .few, l .inv .inner, c .before .before .known-told2 .given)
 
 loop-less : tie.Need-loop-less Inv-loop μ-loop
 loop-less c =
-    let n = c .before .before .before .before .before .before .before .before in
+    let n = c .before .before .before .before .before .before .before in
     let l = n .before .before .before .loop in
     let a = n .before .before .before .before .before .before .args in
     omega (arith, next-run (now (a .b)) (l .at) (n .before .before .next-of .ensures) (n .n .given .1))
 
 loop-again : tie.Need-loop-again Inv-loop μ-loop
 loop-again c =
-    let t = c .before .before .before .before in
+    let t = c .before .before .before in
     let n = t .before .before .before .before in
     let l = n .before .before .before .loop in
     let a = n .before .before .before .before .before .before .args in
     surveyed-more (a .base) (now (a .m)) (now (a .b)) (a .shift) (a .start) (l .at) (ruleOf (l .clash)) (l .samples) (l .inv) (n .before .before .next-of .ensures)
     (n .n .given .0 .0) (n .n .given .0 .1 .0) (n .n .given .1) (t .before .before .read-trun .ensures)
-    (t .run .given .0 .0) (t .run .given .0 .1 .0) (c .before .before .apart .result) (ruleOf (c .before .must .result)) (t .run .given .1)
-    (omega (arith, c .before .before .before .known-told2 .given)) (c .before .before .apart .ensures) (c .before .must .ensures) (ruleOf (c .first-of .result)) (c .first-of .ensures)
+    (t .run .given .0 .0) (t .run .given .0 .1 .0) (c .before .apart .result) (t .run .given .1)
+    (omega (arith, c .before .before .known-told2 .given)) (c .before .apart .ensures) (ruleOf (c .also .result)) (c .also .ensures)
 
 pub survey-runs-spec : {M : Type 1} → statement M
 survey-runs-spec =
@@ -85,11 +91,10 @@ survey-runs-spec =
     returns
     add-r
     add-stands
-    (λ c κs. search needs)
+    read-trun-requires
     (λ c. search needs)
     (λ c. search needs)
     returns-2
-    (λ c κs. search needs)
     (λ c κs. search needs)
     (λ c κs. search needs)
     (λ c. search needs)

@@ -42,8 +42,14 @@ add-placed c =
     let s = c .before .before .before .before .before .before .before in
     omega (arith, s .pre, l .inv .bytesLow)
 
-add-must : tie.Need-add-must Inv-loop μ-loop
-add-must c =
+placed-requires : tie.Need-placed-requires Inv-loop μ-loop
+placed-requires c κs =
+    let l = c .before .before .before .before .loop in
+    let s = c .before .before .before .before .before .before .before in
+    omega (arith, s .pre, next-run (now (s .args .b)) (l .at) (c .before .before .before .next-of .ensures) (c .before .n .given .1))
+
+add-also : tie.Need-add-also Inv-loop μ-loop
+add-also c =
     let n = c .before .before in
     let l = n .before .before .before .loop in
     let s = n .before .before .before .before .before .before in
@@ -51,7 +57,7 @@ add-must c =
 
 run-sums-requires : tie.Need-run-sums-requires Inv-loop μ-loop
 run-sums-requires c κs =
-    let n = c .before .before .before .before in
+    let n = c .before .before .before in
     let l = n .before .before .before .loop in
     let s = n .before .before .before .before .before .before in
     let a = s .args in
@@ -65,7 +71,7 @@ run-sums-requires c κs =
 
 add-ticks : tie.Need-add-ticks Inv-loop μ-loop
 add-ticks c =
-    let n = c .before .before .before .before .before .before in
+    let n = c .before .before .before .before .before in
     let l = n .before .before .before .loop in
     let a = n .before .before .before .before .before .before .args in
     omega (
@@ -78,7 +84,7 @@ add-ticks c =
 
 add-bytes : tie.Need-add-bytes Inv-loop μ-loop
 add-bytes c =
-    let n = c .before .before .before .before .before .before .before in
+    let n = c .before .before .before .before .before .before in
     let l = n .before .before .before .loop in
     let a = n .before .before .before .before .before .before .args in
     omega (
@@ -91,7 +97,7 @@ add-bytes c =
 
 loop-less : tie.Need-loop-less Inv-loop μ-loop
 loop-less c =
-    let n = c .before .before .before .before .before .before .before in
+    let n = c .before .before .before .before .before .before in
     let l = n .before .before .before .loop in
     let a = n .before .before .before .before .before .before .args in
     omega (arith, next-run (now (a .b)) (l .at) (n .before .before .next-of .ensures) (n .n .given .1))
@@ -99,13 +105,13 @@ loop-less c =
 loop-again : tie.Need-loop-again Inv-loop μ-loop
 loop-again c =
     let t = c .before .before in
-    let n = t .before .before .before .before .before in
+    let n = t .before .before .before .before in
     let l = n .before .before .before .loop in
     let a = n .before .before .before .before .before .before .args in
     tiled-more (a .base) (now (a .m)) (a .d) (a .from) (now (a .b)) (a .shift) (a .start) (l .at) (l .first) (l .ticks) (l .bytes) (l .tiled) (l .inv)
     (n .before .before .next-of .ensures) (n .n .given .0 .0) (n .n .given .0 .1 .0) (n .n .given .1)
-    (t .before .before .before .placed .result) (ruleOf (t .before .before .must .result)) (ruleOf (t .before .first-of .result)) (t .run-sums .result .ticks) (t .run-sums .result .bytes)
-    (t .before .before .before .placed .ensures) (t .before .before .must .ensures) (t .before .first-of .ensures) (t .run-sums .ensures .0) (t .run-sums .ensures .1)
+    (t .before .before .placed .result) (ruleOf (t .before .also .result)) (t .run-sums .result .ticks) (t .run-sums .result .bytes)
+    (t .before .before .placed .ensures) (t .before .also .ensures) (t .run-sums .ensures .0) (t .run-sums .ensures .1)
 
 pub tile-runs-spec : {M : Type 1} → statement M
 tile-runs-spec =
@@ -120,9 +126,8 @@ tile-runs-spec =
     returns
     add-r
     add-placed
-    (λ c κs. search needs)
-    add-must
-    (λ c κs. search needs)
+    placed-requires
+    add-also
     (λ c κs. search needs)
     run-sums-requires
     add-ticks

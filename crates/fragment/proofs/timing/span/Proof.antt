@@ -28,6 +28,11 @@ from c =
     runs-from (now (a .m)) (a .s .boxes) (s .pre .1 .stand) (now (c .before .body .result)) (a .s .boxes .traf + c .head-of .result)
     (c .before .body .ensures) (ap (λ (y : ℕ). a .s .boxes .traf + y) (c .head-of .ensures .0))
 
+defaults-at-requires : tie.Need-defaults-at-requires
+defaults-at-requires c κs =
+    let s = c .before .before in
+    omega (arith, s .pre .0, s .pre .1 .stand .traf .low, s .pre .1 .stand .tfhd .low)
+
 sub-first : tie.Need-sub-first
 sub-first c = from (c .before .before) .after
 
@@ -113,7 +118,7 @@ pub span-spec : {M : Type 1} → statement M
 span-spec =
     tie.close
     (tie.spec
-    (λ c κs. search needs)
+    defaults-at-requires
     (λ c κs. search needs)
     (λ c κs. search needs)
     (λ c. search needs)
