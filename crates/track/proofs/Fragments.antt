@@ -1,39 +1,59 @@
 -- Laws of the walk over fragments: one fragment by its own bytes, and one fragment more.
 use mathlib.Core.Path.{_≡_, refl, sym, ap, _∙_}
 use mathlib.Core.List.{List, [], _∷_}
-use Prim.Native.Nat.{ℕ, suc, _+_, _-_, _≤_}
+use Prim.Native.Nat.{ℕ, _+_, _-_, _≤_}
 use native.Mathlib.Omega.{arith}
-use lib.ListN.{length, drop, length-take, length-drop}
+use lib.ListN.{length, take, drop, length-take, length-drop}
 use Rattle.rules.specs.Rules.{_then_}
 use Rattle.rules.specs.Boxes.{boxes, placesOf, whole, headOf, sizeOf}
 use Rattle.rules.specs.Kinds.{moof}
-use Rattle.rules.specs.Fragment.{shape, timing, startOf, endOf}
+use Rattle.rules.specs.Fragment.{shape, timing}
 use Rattle.rules.specs.Track.{fragments, fragmentsFrom, fragmentCount, mdatAt, shapeAt, timingAt, startAt, endAt, rules14to22}
 use Rattle.rules.proofs.Then.{then-holds, then-breaks, then-assoc}
 use Rattle.rules.specs.declared.Header.{Header}
-use Rattle.rules.specs.declared.Rule.{Rule}
 use Rattle.rules.specs.declared.Rule.the-variants.{Holds, Breaks}
 use Rattle.fragment.specs.Timing.{saysFragment}
 use Rattle.fragment.specs.declared.Fragment.{Fragment}
 use Rattle.fragment.specs.declared.Fragment.the-variants.{Good, Refused}
 use Rattle.boxes.specs.Siblings.{Comes}
-use Rattle.track.specs.Says.{saysAt, lastFrom}
+use Rattle.track.specs.Says.{saysAt, lastFrom, saysWalk}
+use Rattle.track.specs.declared.Walk.the-variants.{Done}
 
 -- what is said of a fragment's own bytes is said of the fragment at its place
-pub placed : (r : Fragment) (s : List ℕ) (h : Header) (k prev x : ℕ) (m : List ℕ) (head size : ℕ)
+pub placed : (r : Fragment) (s : List ℕ) (h : Header) (k prev x : ℕ) (m : List ℕ) (mdat head size : ℕ)
     → m ≡ whole s x
-    → head ≡ headOf s (x + length m)
-    → size ≡ sizeOf s (x + length m)
+    → mdat ≡ x + length m
+    → head ≡ headOf s mdat
+    → size ≡ sizeOf s mdat
     → saysFragment r (shape x m (h .id) then timing x m (h .defaults) head (size - head) k prev) m (h .defaults)
     → saysAt r s h k prev x
 unfolding shapeAt timingAt startAt endAt mdatAt
-placed (Good f) s h k prev x m head size e f₁ f₂ p = rw (← e, ← f₁, ← f₂) p
-placed (Refused n q) s h k prev x m head size e f₁ f₂ p = rw (← e, ← f₁, ← f₂) p
+placed (Good f) s h k prev x m mdat head size e g f₁ f₂ p = rw (← e, ← g, ← f₁, ← f₂) p
+placed (Refused n q) s h k prev x m mdat head size e g f₁ f₂ p = rw (← e, ← g, ← f₁, ← f₂) p
 
 -- a box's bytes are no more than the slice's
 pub whole-fits : (s : List ℕ) (x : ℕ) (m : List ℕ) → m ≡ whole s x → length m ≤ length s
 unfolding whole
 whole-fits s x m e = omega (arith, ap length e, length-take (sizeOf s x) (drop x s), length-drop x s)
+
+-- the part of a slice from a box to where it ends
+module _ (s : List ℕ) (p q : ℕ) (e : q ≡ p + sizeOf s p) where
+  -- is the box's bytes
+  pub part-whole : take (q - p) (drop p s) ≡ whole s p
+  unfolding whole
+  part-whole = let f : q - p ≡ sizeOf s p = omega arith in ap (λ (n : ℕ). take n (drop p s)) f
+
+  -- and is as long as the box
+  pub part-end : q ≤ length s → q ≡ p + length (take (q - p) (drop p s))
+  part-end h = omega (arith, length-take (q - p) (drop p s), length-drop p s)
+
+-- after as many fragments as there are none is left
+empty : (xs : List ℕ) → length xs ≡ 0 → xs ≡ []
+empty [] e = refl
+empty (x ∷ xs) e = absurd (omega arith)
+
+pub none-left : (s : List ℕ) (at k : ℕ) → fragmentCount s ≡ k + length (fragmentsFrom s at) → fragmentCount s ≤ k → fragmentsFrom s at ≡ []
+none-left s at k e h = empty (fragmentsFrom s at) (omega arith)
 
 -- the walk stands at a place, before the k-th fragment, after an end: the whole comes to what is left
 pub record Going (s : List ℕ) (h : Header) (at k prev : ℕ) : Type 0 where
@@ -49,11 +69,7 @@ going-begins s h = record { rules = refl; count = omega arith; last = refl; few 
 
 module _ (s : List ℕ) (h : Header) {at k prev : ℕ} (g : Going s h at k prev) where
   -- no fragment is left
-  pub going-done : placesOf moof (boxes s at) ≡ []
-      → (rules14to22 s h 0 0 (fragments s) ≡ Holds)
-      × (k ≡ fragmentCount s)
-      × (prev ≡ lastFrom s h 0 (fragments s))
-      × (k ≤ length s)
+  pub going-done : placesOf moof (boxes s at) ≡ [] → saysWalk (Done k prev) s h
   unfolding fragmentsFrom rules14to22 lastFrom
   going-done e = (
     g .rules ∙ ap (rules14to22 s h k prev) e,
@@ -61,6 +77,11 @@ module _ (s : List ℕ) (h : Header) {at k prev : ℕ} (g : Going s h at k prev)
     sym (g .last ∙ ap (lastFrom s h prev) e),
     omega (arith, g .few, g .inner),
   )
+
+  -- as many were walked as there are
+  pub going-all : fragmentCount s ≤ k → saysWalk (Done k prev) s h
+  unfolding fragmentsFrom
+  going-all e = going-done (none-left s at k (g .count) e)
 
   module _ {p q : ℕ} (c : Comes s at moof p q) where
     -- the fragment at p is the next

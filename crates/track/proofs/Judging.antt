@@ -1,8 +1,8 @@
--- Laws of the stages: where `moov` stands, that a good order has a fragment, and that rule 6 speaks of no track.
+-- Laws of the stages: where `moov` stands, and that a good order has a fragment.
 use mathlib.Core.Path.{_≡_, refl, sym, ap, _∙_}
 use mathlib.Core.List.{List, [], _∷_}
 use mathlib.Core.Bool.{Bool, true, false}
-use Prim.Native.Nat.{ℕ, suc, _+_, _≤_}
+use Prim.Native.Nat.{ℕ, _≤_}
 use native.Mathlib.Omega.{arith}
 use lib.ListN.{length}
 use lib.Dec.{eqb}
@@ -10,14 +10,13 @@ use Rattle.numbers.specs.Numbers.{when}
 use Rattle.rules.specs.Kinds.{moov, moof, named}
 use Rattle.rules.specs.Boxes.{Box, boxes, placesOf, seen, seenFrom, again, firstOf}
 use Rattle.rules.specs.Order.{step6, awaits, ordered, complete, orderFrom, onStepped, rule6}
-use Rattle.rules.specs.Track.{fragments, fragmentsFrom, fragmentCount, moovAt}
+use Rattle.rules.specs.Track.{fragmentsFrom, fragmentCount, moovAt}
 use Rattle.rules.specs.declared.Seen.{Seen}
 use Rattle.rules.specs.declared.Seen.the-variants.{Never, Once, Twice}
 use Rattle.rules.specs.declared.Stage.{Stage}
-use Rattle.rules.specs.declared.Stage.the-variants.{Start, Typed, Headed, Halved, Paired}
+use Rattle.rules.specs.declared.Stage.the-variants.{Start, Typed, Headed}
 use Rattle.rules.specs.declared.Stepped.{Stepped}
 use Rattle.rules.specs.declared.Stepped.the-variants.{To, Wrong}
-use Rattle.rules.specs.declared.Rule.{Rule}
 use Rattle.rules.specs.declared.Rule.the-variants.{Holds, Breaks}
 
 -- something was seen, and a was first
@@ -61,33 +60,6 @@ moov-first s e = sym (first-place (boxes s 0) ∙ ap headOr0 e)
 pub moov-none : (s : List ℕ) → placesOf moov (boxes s 0) ≡ [] → 0 ≡ moovAt s
 unfolding moovAt
 moov-none s e = sym (first-place (boxes s 0) ∙ ap headOr0 e)
-
--- the track of a rule's refusal
-abbrev pub trackOf : Rule → ℕ
-trackOf Holds = 0
-trackOf (Breaks n t p) = t
-
-complete-track : (g : Stage) (len : ℕ) → trackOf (complete g (Breaks 6 0 len)) ≡ 0
-complete-track Start len = refl
-complete-track Typed len = refl
-complete-track Headed len = refl
-complete-track Halved len = refl
-complete-track Paired len = refl
-
-order-track : (len : ℕ) (g : Stage) (xs : List Box) → trackOf (orderFrom len g xs) ≡ 0
-unfolding orderFrom
-order-track len g [] = complete-track g len
-order-track len g (x ∷ xs) =
-    let b : (t : Stepped) → trackOf (onStepped t (λ h. orderFrom len h xs) (Breaks 6 0 (x .at))) ≡ 0
-    = elim [ To h ↦ order-track len h xs | Wrong ↦ refl ] in
-    b (step6 g (x .kind))
-
--- rule 6 speaks of track 0
-pub rule6-track : (s : List ℕ) {r : Rule} {n t p : ℕ} → r ≡ rule6 s → r ≡ Breaks n t p → rule6 s ≡ Breaks n 0 p
-unfolding rule6
-rule6-track s {r} {n} {t} {p} e f =
-    let z : t ≡ 0 = ap trackOf (sym f ∙ e) ∙ order-track (length s) Start (boxes s 0) in
-    sym e ∙ f ∙ ap (λ (i : ℕ). Breaks n i p) z
 
 -- a stage before the first fragment
 data Early : Stage → Type 0 where

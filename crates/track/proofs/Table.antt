@@ -1,12 +1,12 @@
 -- Laws of the table: the boundaries as each start and the last end, written from the front.
 use mathlib.Core.Path.{_≡_, refl, sym, ap, _∙_}
 use mathlib.Core.List.{List, [], _∷_, _++_}
-use Prim.Native.Nat.{ℕ, zero, suc, _+_, _≤_, _<_}
+use Prim.Native.Nat.{ℕ, suc, _+_, _≤_, _<_}
 use native.Mathlib.Nat.{zero-add}
 use native.Mathlib.Numerals.{add-one}
 use native.Mathlib.Omega.{arith}
 use lib.ListN.{length, drop, set, length-set}
-use lib.Seq.{sets, sets-eq, length-sets}
+use lib.Seq.{sets, sets-eq}
 use Rattle.rules.specs.Kinds.{moof}
 use Rattle.rules.specs.Boxes.{boxes, placesOf, whole}
 use Rattle.rules.specs.Fragment.{startOf}
@@ -17,6 +17,7 @@ use Rattle.rules.specs.Track.{Outcome, ruling, timescale, roomFor, refused, acc
 use Rattle.rules.specs.declared.Header.{Header}
 use Rattle.boxes.specs.Siblings.{Comes}
 use Rattle.track.specs.Says.{lastFrom, lastEnd}
+use Rattle.track.proofs.Fragments.{none-left}
 
 -- each start, and the last end
 unfoldable pub written : List ℕ → ℕ → List ℕ → List ℕ
@@ -56,7 +57,7 @@ starts s m x e = ap startOf e
 -- the table t, written up to k, comes to the whole with what is left
 pub record Writing (s t₀ : List ℕ) (last at k : ℕ) (t : List ℕ) : Type 0 where
   pub comes : sets t k (written s last (fragmentsFrom s at)) ≡ sets t₀ 0 (boundaries s)
-  pub room : k + length (fragmentsFrom s at) + 1 ≤ length t
+  pub count : fragmentCount s ≡ k + length (fragmentsFrom s at)
   pub same : length t ≡ length t₀
   pub all : (1 ≤ fragmentCount s) × (fragmentCount s + 1 ≤ length t₀)
   pub few : k ≤ at
@@ -67,7 +68,7 @@ unfolding fragmentCount
 writing-begins s t e n m =
     record {
       comes = ap (sets t 0) (ap (λ (l : ℕ). written s l (fragments s)) e ∙ sym (boundaries-written s n));
-      room = omega (arith, m);
+      count = omega arith;
       same = refl;
       all = (n, m);
       few = omega arith;
@@ -75,15 +76,19 @@ writing-begins s t e n m =
     }
 
 module _ (s t₀ : List ℕ) {last at k : ℕ} {t : List ℕ} (w : Writing s t₀ last at k t) where
-  -- the last end
-  pub writing-ends : placesOf moof (boxes s at) ≡ []
-      → set t k last ≡ boundaries s ++ drop (length (boundaries s)) t₀
-  unfolding written fragmentsFrom
+  -- the last end, after every start
+  pub writing-ends : fragmentCount s ≤ k → set t k last ≡ boundaries s ++ drop (length (boundaries s)) t₀
+  unfolding written
   writing-ends e =
-      sym (ap (λ (l : List ℕ). sets t k (written s last l)) e)
+      sym (ap (λ (l : List ℕ). sets t k (written s last l)) (none-left s at k (w .count) e))
       ∙ w .comes
       ∙ sets-eq (boundaries s) t₀ 0 (omega (arith, w .all, length-boundaries s (w .all .0)))
       ∙ ap (λ (l : ℕ). boundaries s ++ drop l t₀) (zero-add (length (boundaries s)))
+
+  -- while starts are left to write, a fragment comes
+  pub writing-more : k < fragmentCount s → placesOf moof (boxes s at) ≡ [] → ⊥
+  unfolding fragmentsFrom
+  writing-more e f = omega (arith, w .count, ap length f)
 
   module _ {p q : ℕ} (c : Comes s at moof p q) where
     next : fragmentsFrom s at ≡ p ∷ fragmentsFrom s q
@@ -99,7 +104,7 @@ module _ (s t₀ : List ℕ) {last at k : ℕ} {t : List ℕ} (w : Writing s t�
               rw (add-one) (ap (λ (x : ℕ). sets (set t k x) (suc k) (written s last (fragmentsFrom s q))) e)
               ∙ sym (ap (λ (l : List ℕ). sets t k (written s last l)) next)
               ∙ w .comes;
-          room = simp length-set (omega (arith, w .room, ap length next));
+          count = omega (arith, w .count, ap length next);
           same = simp length-set (w .same);
           all = w .all;
           few = omega (arith, w .few, c .from, c .past);

@@ -13,11 +13,18 @@ use Rattle.rules.specs.declared.Rule.{Rule}
 use Rattle.rules.specs.declared.Rule.the-variants.{Holds, Breaks}
 use Rattle.fragment.specs.declared.Fragment.{Fragment}
 use Rattle.header.specs.declared.Headed.{Headed}
+use Rattle.track.specs.declared.Ordered.{Ordered}
+use Rattle.track.specs.declared.Ordered.the-variants.{Good, Wrong}
 use Rattle.track.specs.declared.Walk.{Walk}
 use Rattle.track.specs.declared.Walk.the-variants.{Done, Cut}
 use Rattle.track.specs.declared.Judged.{Judged}
 use Rattle.track.specs.declared.Facts.{Facts}
 use Rattle.track.specs.declared.Judged.the-variants.{Accepted, Refused}
+
+-- rule 6 holds, with the number of fragments; or breaks at a place
+abbrev pub saysOrdered : Ordered → Rule → ℕ → Type 0
+saysOrdered (Good n) rule count = (rule ≡ Holds) × (n ≡ count)
+saysOrdered (Wrong p) rule count = rule ≡ Breaks 6 0 p
 
 -- the last end of fragments at places, after an end before them
 unfoldable pub lastFrom : List ℕ → Header → ℕ → List ℕ → ℕ

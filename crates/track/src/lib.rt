@@ -5,6 +5,7 @@ ghost use Prim.Native.Nat.{_+_, _≤_};
 ghost use lib.ListN.{length, drop};
 ghost use Rattle.rules.specs.Limits.{byteLimit};
 ghost use Rattle.rules.specs.Rules.{_then_};
+ghost use Rattle.rules.specs.Boxes.{sizeOf};
 ghost use Rattle.rules.specs.Framing.{rules2to5};
 ghost use Rattle.rules.specs.Order.{rule6};
 ghost use Rattle.rules.specs.Track.{moovAt, headerOf, fragments, fragmentCount, rules14to22, rulesOfHeader, ruling, timescale, boundaries, roomFor, trackOutcome};
@@ -16,7 +17,6 @@ use fragment::Fragment;
 use header::Headed;
 use rules::Framing;
 use rules::Header;
-use rules::Rule;
 use rules::Verdict;
 
 pub mod order;
@@ -40,33 +40,38 @@ pub enum Judged {
     Refused { number: u64, place: u64 },
 }
 
+// What rule 6 comes to: the number of fragments, or the place where the order breaks.
+pub enum Ordered {
+    Good(u64),
+    Wrong(usize),
+}
+
 // What the fragments come to: their number and the last end, or the first broken rule.
 pub enum Walk {
     Done { count: u64, last: u64 },
     Cut { number: u64, place: u64 },
 }
 
-// Rules 14 to 22 of the fragment at a place.
-fn fragment_at(s: &[u8], x: usize, h: Header, k: u64, prev: u64) -> Fragment
-    requires { ⌜ (x ≤ byteLimit) × (length (now s) ≤ byteLimit) ⌝ }
+// Rules 14 to 22 of the fragment at a place, whose `mdat` stands where the `moof` ends.
+fn fragment_at(s: &[u8], x: usize, mdat: usize, h: Header, k: u64, prev: u64) -> Fragment
+    requires { ⌜ (mdat ≡ x + sizeOf (now s) x) × (mdat ≤ length (now s)) × (length (now s) ≤ byteLimit) ⌝ }
     ensures { λ r. ⌜ saysAt r (now (s .entry)) h k prev x ⌝ }
 {
-    let moof = fields::whole(s, x);
-    let mdat = x + moof.len();
+    let moof = &s[x..mdat];
     let head = fields::head_of(s, mdat) as u64;
     let size = fields::size_of(s, mdat);
     fragment::check(moof, x as u64, head, fields::less(size, head), h, k, prev)
 }
 
-// Rules 14 to 22, fragment by fragment.
-fn all_fragments(s: &[u8], h: Header) -> Walk
-    requires { ⌜ length (now s) ≤ byteLimit ⌝ }
+// Rules 14 to 22 of n fragments, one by one.
+fn all_fragments(s: &[u8], h: Header, n: u64) -> Walk
+    requires { ⌜ (length (now s) ≤ byteLimit) × (n ≡ fragmentCount (now s)) ⌝ }
     ensures { λ r. ⌜ saysWalk r (now (s .entry)) h ⌝ }
 {
     let mut at: usize = 0;
     let mut k: u64 = 0;
     let mut prev: u64 = 0;
-    loop {
+    while k < n {
         let found = boxes::next_of(s, at, MOOF);
         let Next::At { place, next } = found else {
             return Walk::Done {
@@ -74,7 +79,7 @@ fn all_fragments(s: &[u8], h: Header) -> Walk
                 last: prev,
             };
         };
-        let f = fragment_at(s, place, h, k, prev);
+        let f = fragment_at(s, place, next, h, k, prev);
         match f {
             Fragment::Good(x) => {
                 prev = x.end;
@@ -86,17 +91,21 @@ fn all_fragments(s: &[u8], h: Header) -> Walk
             }
         }
     }
+    Walk::Done {
+        count: k,
+        last: prev,
+    }
 }
 
 // Rules 14 to 22, after the header.
-fn after_header(s: &[u8], base: u64, x: header::Facts) -> Judged
+fn after_header(s: &[u8], base: u64, x: header::Facts, n: u64) -> Judged
     requires { ⌜ (length (now s) ≤ byteLimit) × (base ≤ byteLimit) ⌝ }
     requires { ⌜ headed (now s) base x ⌝ }
-    requires { ⌜ 1 ≤ fragmentCount (now s) ⌝ }
+    requires { ⌜ (1 ≤ fragmentCount (now s)) × (n ≡ fragmentCount (now s)) ⌝ }
     ensures { λ r. ⌜ saysJudged r (now (s .entry)) (rules14to22 (now (s .entry)) (headerOf (now (s .entry))) 0 0 (fragments (now (s .entry)))) ⌝ }
 {
     let h = x.header;
-    match all_fragments(s, h) {
+    match all_fragments(s, h, n) {
         Walk::Done { count, last } => Judged::Accepted(Facts {
             fragments: count,
             timescale: h.timescale,
@@ -121,17 +130,17 @@ fn moov_at(s: &[u8]) -> usize
     }
 }
 
-// Rules 7 to 22, after the order.
-fn after_order(s: &[u8]) -> Judged
+// Rules 7 to 22, after the order, which counted n fragments.
+fn after_order(s: &[u8], n: u64) -> Judged
     requires { ⌜ length (now s) ≤ byteLimit ⌝ }
-    requires { ⌜ 1 ≤ fragmentCount (now s) ⌝ }
+    requires { ⌜ (1 ≤ fragmentCount (now s)) × (n ≡ fragmentCount (now s)) ⌝ }
     ensures { λ r. ⌜ saysJudged r (now (s .entry)) (rulesOfHeader (now (s .entry)) then rules14to22 (now (s .entry)) (headerOf (now (s .entry))) 0 0 (fragments (now (s .entry)))) ⌝ }
 {
     let base = moov_at(s);
     let ftyp = fields::whole(s, 0);
     let moov = fields::whole(s, base);
     match header::check(ftyp, moov, base as u64) {
-        Headed::Good(x) => after_header(s, base as u64, x),
+        Headed::Good(x) => after_header(s, base as u64, x, n),
         Headed::Refused { number, place } => Judged::Refused { number, place },
     }
 }
@@ -142,12 +151,11 @@ fn after_framing(s: &[u8]) -> Judged
     ensures { λ r. ⌜ saysJudged r (now (s .entry)) (rule6 (now (s .entry)) then rulesOfHeader (now (s .entry)) then rules14to22 (now (s .entry)) (headerOf (now (s .entry))) 0 0 (fragments (now (s .entry)))) ⌝ }
 {
     match order::order(s) {
-        Rule::Holds => after_order(s),
-        Rule::Breaks {
-            number,
-            track: _,
-            place,
-        } => Judged::Refused { number, place },
+        Ordered::Good(n) => after_order(s, n),
+        Ordered::Wrong(place) => Judged::Refused {
+            number: 6,
+            place: place as u64,
+        },
     }
 }
 
@@ -183,24 +191,24 @@ pub fn refused(number: u64, track: u64, place: u64) -> Verdict
     }
 }
 
-// The boundaries of an accepted track: each start, and the last end, at the front of the table.
-pub fn write_boundaries(s: &[u8], last: u64, t: &mut [u64])
+// The boundaries of an accepted track of n fragments: each start, and the last end, at the front of the table.
+pub fn write_boundaries(s: &[u8], last: u64, n: usize, t: &mut [u64])
     requires { ⌜ (last ≡ lastEnd (now s)) × (1 ≤ fragmentCount (now s)) × (fragmentCount (now s) + 1 ≤ length (now t)) ⌝ }
+    requires { ⌜ n ≡ fragmentCount (now s) ⌝ }
     ensures { λ _. ⌜ now (t .exit) ≡ boundaries (now (s .entry)) ++ drop (length (boundaries (now (s .entry)))) (now (t .entry)) ⌝ }
 {
     let mut at: usize = 0;
     let mut k: usize = 0;
-    loop {
+    while k < n {
         let found = boxes::next_of(s, at, MOOF);
         let Next::At { place, next } = found else {
-            t[k] = last;
             return;
         };
-        let moof = fields::whole(s, place);
-        t[k] = fragment::start_of(moof);
+        t[k] = fragment::start_of(&s[place..next]);
         k += 1;
         at = next;
     }
+    t[k] = last;
 }
 
 // An accepted track: room, and the boundaries.
@@ -212,7 +220,7 @@ pub fn accept(s: &[u8], f: Facts, t: &mut [u64]) -> Verdict
     if (t.len() as u64) <= n {
         return refused(23, 0, 0);
     }
-    write_boundaries(s, f.last, t);
+    write_boundaries(s, f.last, n as usize, t);
     Verdict {
         number: 0,
         track: 0,

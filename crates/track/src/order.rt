@@ -1,14 +1,15 @@
-// Rule 6: the order of the top level.
+// Rule 6: the order of the top level, and how many fragments stand in it.
 ghost use mathlib.Core.Path.{_≡_};
-ghost use lib.ListN.{length};
 ghost use Rattle.rules.specs.Order.{ordered, awaits, step6, complete, rule6};
+ghost use Rattle.rules.specs.Track.{fragmentCount};
 ghost use Rattle.rules.specs.declared.Rule.the-variants.{Breaks};
+ghost use Rattle.track.specs.Says.{saysOrdered};
+use crate::Ordered;
 use boxes::kinds::FTYP;
 use boxes::kinds::MDAT;
 use boxes::kinds::MOOF;
 use boxes::kinds::MOOV;
 use rules::Look;
-use rules::Rule;
 use rules::Stage;
 use rules::Stepped;
 
@@ -63,30 +64,26 @@ fn step6(stage: Stage, kind: u32) -> Stepped
     }
 }
 
-// What rule 6 says where the boxes run out at a place.
-fn complete(stage: Stage, place: usize) -> Rule
-    ensures { λ r. ⌜ r ≡ complete stage (Breaks 6 0 place) ⌝ }
+// What rule 6 says where the boxes run out at a place, after some fragments.
+fn complete(stage: Stage, fragments: u64, place: usize) -> Ordered
+    ensures { λ r. ⌜ saysOrdered r (complete stage (Breaks 6 0 place)) fragments ⌝ }
 {
-    let cut = Rule::Breaks {
-        number: 6,
-        track: 0,
-        place: place as u64,
-    };
     match stage {
-        Stage::Start => cut,
-        Stage::Typed => cut,
-        Stage::Headed => cut,
-        Stage::Halved => cut,
-        Stage::Paired => Rule::Holds,
+        Stage::Start => Ordered::Wrong(place),
+        Stage::Typed => Ordered::Wrong(place),
+        Stage::Headed => Ordered::Wrong(place),
+        Stage::Halved => Ordered::Wrong(place),
+        Stage::Paired => Ordered::Good(fragments),
     }
 }
 
 // Rule 6 of a slice.
-pub fn order(s: &[u8]) -> Rule
-    ensures { λ r. ⌜ r ≡ rule6 (now (s .entry)) ⌝ }
+pub fn order(s: &[u8]) -> Ordered
+    ensures { λ r. ⌜ saysOrdered r (rule6 (now (s .entry))) (fragmentCount (now (s .entry))) ⌝ }
 {
     let mut at: usize = 0;
     let mut stage = Stage::Start;
+    let mut fragments: u64 = 0;
     while at < s.len() {
         let seen = boxes::look(s, at);
         let Look::Header {
@@ -95,18 +92,17 @@ pub fn order(s: &[u8]) -> Rule
             kind,
         } = seen
         else {
-            return complete(stage, s.len());
+            return complete(stage, fragments, s.len());
         };
         let step = step6(stage, kind);
         let Stepped::To(next) = step else {
-            return Rule::Breaks {
-                number: 6,
-                track: 0,
-                place: at as u64,
-            };
+            return Ordered::Wrong(at);
         };
+        if kind == MOOF {
+            fragments += 1;
+        }
         stage = next;
         at += size;
     }
-    complete(stage, s.len())
+    complete(stage, fragments, s.len())
 }

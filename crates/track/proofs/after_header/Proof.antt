@@ -8,7 +8,7 @@ use Rattle.track.proofs.after_header.Tie as tie
 returns : tie.Need-returns
 returns c =
     let a = c .before .before .before .before .before .before .args in
-    accepts (now (a .s)) (a .base) (a .x) (c .before .before .before .before .before .before .pre .1 .0) (c .before .before .before .before .before .before .pre .1 .1) (rw (c .before .count .given .1) at (c .before .before .before .all-fragments .ensures))
+    accepts (now (a .s)) (a .base) (a .x) (c .before .before .before .before .before .before .pre .1 .0) (c .before .before .before .before .before .before .pre .1 .1 .0) (rw (c .before .count .given .1) at (c .before .before .before .all-fragments .ensures))
 
 returns-2 : tie.Need-returns-2
 returns-2 c =
