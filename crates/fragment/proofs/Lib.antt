@@ -2,7 +2,10 @@ pub mod Counted
 pub mod First
 pub mod Flags
 pub mod Judged
+pub mod Quickly
+pub mod Short
 pub mod Standing
 pub mod Sums
 pub mod Tile
+pub mod Usually
 pub mod Walk

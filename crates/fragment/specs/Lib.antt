@@ -6,3 +6,4 @@ pub mod Samples
 pub mod Shape
 pub mod Timing
 pub mod Told
+pub mod Usual

@@ -9,6 +9,8 @@ use boxes::kinds::TFDT;
 use boxes::kinds::TRAF;
 use rules::Header;
 use shape::Shape;
+use usual::Quick;
+use usual::Usual;
 
 mod bodies;
 mod counts;
@@ -18,6 +20,7 @@ mod samples;
 mod shape;
 mod timing;
 mod told;
+mod usual;
 
 // A good fragment's start and end.
 pub struct Facts {
@@ -37,6 +40,10 @@ pub fn check(m: &[u8], base: u64, head: u64, payload: u64, h: Header, k: u64, pr
     requires { ⌜ (length (now m) ≤ 4294967296) × (base ≤ 4294967296) × (head ≤ 16) ⌝ }
     ensures { λ r. ⌜ saysFragment r (shape base (now (m .entry)) (h .id) then timing base (now (m .entry)) (h .defaults) head payload k prev) (now (m .entry)) (h .defaults) ⌝ }
 {
+    let quick = usual::quick_check(m, base, head, payload, h, k, prev);
+    if let Quick::Known(f) = quick {
+        return f;
+    }
     let answer = shape::shape_of(m, base, h.id);
     match answer {
         Shape::Refused { number, place } => Fragment::Refused { number, place },
@@ -51,7 +58,13 @@ pub fn check(m: &[u8], base: u64, head: u64, payload: u64, h: Header, k: u64, pr
 pub fn start_of(m: &[u8]) -> u64
     ensures { λ r. ⌜ r ≡ startOf (now (m .entry)) ⌝ }
 {
-    let traf = counts::child_of(m, 0, TRAF);
-    let tfdt = counts::child_of(m, traf, TFDT);
-    bodies::time_at(m, tfdt)
+    let layout = usual::usual_of(m);
+    match layout {
+        Usual::At { tfdt, run: _ } => bodies::time_at(m, tfdt),
+        Usual::Other => {
+            let traf = counts::child_of(m, 0, TRAF);
+            let tfdt = counts::child_of(m, traf, TFDT);
+            bodies::time_at(m, tfdt)
+        }
+    }
 }

@@ -54,7 +54,7 @@ fn read_trun(m: &[u8], r: usize) -> Trun
 }
 
 // Whether first-sample flags and flags of each sample do not stand in one run.
-fn apart(flags: u32) -> bool
+pub fn apart(flags: u32) -> bool
     ensures { λ r. ⌜ r ≡ not (has flags 0x4 && has flags 0x400) ⌝ }
 {
     if numbers::has(flags, 0x4) {

@@ -121,7 +121,7 @@ fn times(n: usize, x: u32) -> u64
 }
 
 // The durations and the sizes of n samples whose fields stand a step apart from a place.
-fn sums_of(m: &[u8], from: usize, step: usize, n: usize, flags: u32, d: Defaults) -> Sums
+pub fn sums_of(m: &[u8], from: usize, step: usize, n: usize, flags: u32, d: Defaults) -> Sums
     requires { ⌜ Spaced (from + 4) step n ⌝ }
     requires { ⌜ step ≡ stride flags ⌝ }
     ensures { λ r. ⌜ Summed (ownTicks (now (m .entry)) from step flags (d .duration)) n (r .ticks) ⌝ }

@@ -32,7 +32,7 @@ pub enum Shape {
 }
 
 // Rule 16, the flags of `tfhd`: 0x1 and 0x10000 clear, 0x20000 set.
-fn flagged(flags: u32) -> bool
+pub fn flagged(flags: u32) -> bool
     ensures { λ r. ⌜ r ≡ (not (has flags 0x1) && not (has flags 0x10000) && has flags 0x20000) ⌝ }
 {
     if numbers::has(flags, 0x1) {

@@ -24,7 +24,7 @@ pub enum End {
 }
 
 // Rule 19: the first fragment, or one that starts at the previous end.
-fn follows(k: u64, start: u64, prev: u64) -> bool
+pub fn follows(k: u64, start: u64, prev: u64) -> bool
     ensures { λ r. ⌜ r ≡ (eqb k 0 || eqb start prev) ⌝ }
 {
     if k == 0 {
@@ -34,7 +34,7 @@ fn follows(k: u64, start: u64, prev: u64) -> bool
 }
 
 // Rule 20: the end, by a start and a duration.
-fn end_at(start: u64, ticks: u64) -> End
+pub fn end_at(start: u64, ticks: u64) -> End
     requires { ⌜ ticks ≤ 281474976645120 ⌝ }
     ensures { λ r. ⌜ saysEnd r start ticks ⌝ }
 {
@@ -48,7 +48,7 @@ fn end_at(start: u64, ticks: u64) -> End
 }
 
 // Rule 21: not the non-sync bit.
-fn is_sync(flags: u32) -> bool
+pub fn is_sync(flags: u32) -> bool
     ensures { λ r. ⌜ r ≡ not (has flags 0x10000) ⌝ }
 {
     let other = numbers::has(flags, 0x10000);

@@ -1,19 +1,22 @@
 -- `fragment::check` meets its contract. Assumes nothing.
-use borrow.Author.Needs.{needs}
 use Rattle.rules.proofs.Then.{then-holds, then-breaks}
+use borrow.Author.Needs.{needs}
 use Rattle.fragment.proofs.check.Statement.{statement}
 use Rattle.fragment.proofs.check.Tie as tie
+
+returns : tie.Need-returns
+returns c = rw (c .before .quick .given .1) at (c .before .before .before .quick-check .ensures)
 
 time-requires : tie.Need-time-requires
 time-requires c κs =
     let r = rw (c .before .before .answer2 .given .1) at (c .before .before .before .before .shape-of .ensures) in
-    (c .before .before .before .before .before .before .pre, r .1)
-
-returns : tie.Need-returns
-returns c = then-breaks _ (rw (c .before .answer .given .1) at (c .before .before .before .shape-of .ensures))
+    (c .before .before .before .before .before .before .before .before .before .pre, r .1)
 
 returns-2 : tie.Need-returns-2
-returns-2 c =
+returns-2 c = then-breaks _ (rw (c .before .answer .given .1) at (c .before .before .before .shape-of .ensures))
+
+returns-3 : tie.Need-returns-3
+returns-3 c =
     let r = rw (c .before .before .before .answer2 .given .1) at (c .before .before .before .before .before .shape-of .ensures) in
     rw (then-holds _ (r .0)) (c .time .ensures)
 
@@ -23,7 +26,11 @@ check-spec =
     (tie.spec
     (λ c κs. search needs)
     (λ c. search needs)
+    returns
+    (λ c. search needs)
+    (λ c κs. search needs)
+    (λ c. search needs)
     (λ c. search needs)
     time-requires
-    returns
-    returns-2)
+    returns-2
+    returns-3)
