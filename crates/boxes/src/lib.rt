@@ -151,7 +151,7 @@ pub fn named(want: u32, kind: u32) -> bool
 }
 
 // What is seen after one box more at a place.
-fn again(seen: Seen, at: usize) -> Seen
+pub fn again(seen: Seen, at: usize) -> Seen
     ensures { λ r. ⌜ r ≡ again at seen ⌝ }
 {
     match seen {

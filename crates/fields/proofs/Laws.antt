@@ -33,18 +33,18 @@ pub size-short : (s : List ℕ) (at : ℕ) → (be4 s at ≡ 1 → ⊥) → size
 unfolding sizeOf
 size-short s at e = rw (ne-eqb _ _ e)
 
--- the head of a full box whose header is short
-pub full-short : (s : List ℕ) (at : ℕ) (f : Full) → (be4 s at ≡ 1 → ⊥) → f .head ≡ 8 → f .size ≡ be4 s at - 8 + 8 → f .version ≡ byte s (at + 8)
-    → f .flags ≡ be3 s (at + 8 + 1) → f .flags < 16777216 → FullAt s at f
+-- the head of a full box by its header's length and its size
+pub full-by : (s : List ℕ) (at h z : ℕ) (f : Full) → h ≡ headOf s at → z ≡ sizeOf s at → h ≤ 16 → f .head ≡ h → f .size ≡ z - h + 8
+    → f .version ≡ byte s (at + h) → f .flags ≡ be3 s (at + h + 1) → f .flags < 16777216 → FullAt s at f
 unfolding shortSize version flagsOf
-full-short s at f e h z v b low =
+full-by s at h z f eh ez low a b c d e =
     record {
-      head = rw (head-short s at e) h;
-      size = rw (head-short s at e, size-short s at e) z;
-      version = rw (head-short s at e) v;
-      flags = rw (head-short s at e) b;
-      headLow = rw h (omega arith);
-      flagsLow = low;
+      head = a ∙ eh;
+      size = rw (← eh, ← ez) b;
+      version = rw (← eh) c;
+      flags = rw (← eh) d;
+      headLow = rw a low;
+      flagsLow = e;
     }
 
 -- past the end every number is 0

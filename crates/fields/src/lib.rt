@@ -150,22 +150,32 @@ pub struct Full {
     pub flags: u32,
 }
 
-// The head of the full box at a place: by one range test where its header is short, else field by field.
+// The head of the full box at a place inside the slice, by its header's length and its size.
+fn full_by(s: &[u8], at: usize, head: usize, size: u64) -> Full
+    requires { ⌜ (at + 20 ≤ length (now s)) × (8 ≤ head) × (head ≤ 16) ⌝ }
+    requires { ⌜ (head ≡ headOf (now s) at) × (size ≡ sizeOf (now s) at) ⌝ }
+    ensures { λ r. ⌜ FullAt (now (s .entry)) at r ⌝ }
+{
+    let p = at + head;
+    Full {
+        head,
+        size: less(size, head as u64) + 8,
+        version: s[p],
+        flags: numbers::near3(s, p + 1),
+    }
+}
+
+// The head of the full box at a place: by one range test where 20 bytes stand there, enough for either header, else field by field.
 pub fn full_at(s: &[u8], at: usize) -> Full
     ensures { λ r. ⌜ FullAt (now (s .entry)) at r ⌝ }
 {
-    if 12 <= s.len() {
-        if at <= s.len() - 12 {
-            let size = numbers::near4(s, at);
-            if size != 1 {
-                let p = at + 8;
-                return Full {
-                    head: 8,
-                    size: less(size as u64, 8) + 8,
-                    version: s[p],
-                    flags: numbers::near3(s, p + 1),
-                };
+    if 20 <= s.len() {
+        if at <= s.len() - 20 {
+            let short = numbers::near4(s, at);
+            if short == 1 {
+                return full_by(s, at, 16, numbers::near8(s, at + 8));
             }
+            return full_by(s, at, 8, short as u64);
         }
     }
     Full {

@@ -44,7 +44,7 @@ headOr0 [] = 0
 headOr0 (p ∷ ps) = p
 
 -- a type that is not 0 wants itself
-named-is : (w k : ℕ) → 0 < w → named w k ≡ eqb k w
+pub named-is : (w k : ℕ) → 0 < w → named w k ≡ eqb k w
 unfolding named
 named-is w k h = rw (ne-eqb w 0 (λ e. omega (arith, e)))
 

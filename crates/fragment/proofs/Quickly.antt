@@ -1,112 +1,116 @@
 -- Laws of the usual layout's rules: by what is read at the known places they are the rules over the `moof`.
 use mathlib.Core.Path.{_≡_, refl, sym, ap, _∙_}
 use mathlib.Core.List.{List, [], _∷_}
-use mathlib.Core.Bool.{Bool, true, false, not, _&&_, _||_}
-use Prim.Native.Nat.{ℕ, _+_, _-_, _*_, _<_, _≤_}
+use mathlib.Core.Bool.{true, not, _&&_, _||_}
+use Prim.Native.Nat.{ℕ, _+_, _-_, _*_, _≤_}
 use native.Mathlib.Omega.{arith}
 use lib.ListN.{length}
 use lib.Dec.{eqb, leb, ltb}
-use borrow.Author.Tests.{ltb-true, leb-true, eqb-true, ne-eqb}
+use borrow.Author.Tests.{ltb-true, leb-true, ne-eqb}
 use Rattle.numbers.specs.Numbers.{byte, be3, be4, has}
 use Rattle.rules.specs.Limits.{sampleLimit}
 use Rattle.rules.specs.Rules.{_then_, must}
 use Rattle.rules.specs.Boxes.{headOf}
 use Rattle.rules.specs.Header.{shortSize, version, field, versioned, plain}
-use Rattle.rules.specs.Fragment.{flagsOf, tfhdSize, runHead, stride, countOf, runSized, rule15, rule15runs, rule16, rule16runs, rule17, rule18, samplesOf, shape, startOf, defaultsIn, durationOf, bytesOf, firstFlagsOf, runDuration, runBytes, durationsOf, bytesIn, firstFlags, durationIn, endOf, syncIn, rule19, rule20, rule21, offsetIs, placed, rule22runs, rule22, timing}
+use Rattle.rules.specs.Fragment.{flagsOf, tfhdSize, runHead, stride, countOf, runSized, rule15, rule15runs, rule16, rule16runs, rule17, rule18, samplesOf, shape, startOf, defaultsIn, runDuration, runBytes, durationsOf, bytesIn, firstFlags, durationIn, endOf, syncIn, rule19, rule20, rule21, placed, rule22runs, rule22, timing}
 use Rattle.rules.specs.declared.Rule.{Rule}
 use Rattle.rules.specs.declared.Rule.the-variants.{Holds}
 use Rattle.rules.specs.declared.Defaults.{Defaults}
+use Rattle.rules.proofs.Laws.{each-on}
 use Rattle.rules.proofs.Then.{then-holds, then-both}
 use Rattle.fragment.specs.Layout.{defaultsFrom, defaultsBehind, firstFlagsBehind, placedBehind}
-use Rattle.fragment.specs.Samples.{Summed}
+use Rattle.fragment.specs.Samples.{ownTicks, ownBytes, Summed}
 use Rattle.fragment.specs.Timing.{saysFragment}
-use Rattle.fragment.specs.Usual.{UsualAt, headsFit, LastRun, runFits, runShape, runTiming, closing, saysSpan, saysRest, saysQuick}
+use Rattle.fragment.specs.Usual.{UsualAt, headsFit, RunAt, runFits, runShape, runTiming, closing, saysSpan, saysRest, saysQuick}
 use Rattle.fragment.specs.declared.Fragment.{Fragment}
 use Rattle.fragment.specs.declared.Fragment.the-variants.{Good, Refused}
 use Rattle.fragment.specs.declared.usual.Quick.{Quick}
 use Rattle.fragment.specs.declared.usual.Quick.the-variants.{Known, Other}
-use Rattle.fragment.proofs.Short.{both, short-head, short-size}
+use Rattle.fragment.proofs.Short.{short-head, short-size}
+use Rattle.fragment.proofs.Tile.{placed-at, first-at}
+use Rattle.fragment.proofs.Sums.{run-ticks, run-bytes}
 
--- each of five tests
-five : (a b c d e : Bool) → (a && b && c && d && e) ≡ true → (a ≡ true) × (b ≡ true) × (c ≡ true) × (d ≡ true) × (e ≡ true)
-five a b c d e h =
-    let p = both (a && b && c && d) e h in
-    let q = both (a && b && c) d (p .0) in
-    let s = both (a && b) c (q .0) in
-    let t = both a b (s .0) in
-    (t .0, t .1, s .1, q .1, p .1)
+-- the only run, read behind a short header: its flags, its samples, and that its test is good
+pub record RunRead (m : List ℕ) (r c f n : ℕ) : Type 0 where
+  pub run : RunAt m r c
+  pub flags : f ≡ be3 m (r + 9)
+  pub count : n ≡ be4 m (r + 12)
+  pub fits : runFits m r c f n ≡ true
 
--- the only run, whose flags and samples are read behind a short header
-module _ (m : List ℕ) (r f n : ℕ) (last : LastRun m r) (flags : f ≡ be3 m (r + 9)) (count : n ≡ be4 m (r + 12)) where
-  pub run-begins : headOf m r ≡ 8
-  run-begins = short-head m r (be4 m r) refl (omega (arith, last .size, last .high))
+module _ {m : List ℕ} {r c f n : ℕ} (x : RunRead m r c f n) where
+  run-begins : headOf m r ≡ 8
+  run-begins = short-head m r c (x .run .size) (omega (arith, x .run .low))
 
-  pub run-flags : flagsOf m r ≡ f
+  run-flags : flagsOf m r ≡ f
   unfolding flagsOf
-  run-flags = rw run-begins (ap (be3 m) (omega arith) ∙ sym flags)
+  run-flags = rw run-begins (ap (be3 m) (omega arith) ∙ sym (x .flags))
 
   run-count : countOf m r ≡ n
   unfolding countOf field
-  run-count = rw run-begins (ap (be4 m) (omega arith) ∙ sym count)
+  run-count = rw run-begins (ap (be4 m) (omega arith) ∙ sym (x .count))
 
-  run-size : shortSize m r ≡ length m - r
-  run-size = short-size m r (be4 m r) refl (omega (arith, last .size, last .high)) ∙ omega (arith, last .size)
+  run-size : shortSize m r ≡ c
+  run-size = short-size m r c (x .run .size) (omega (arith, x .run .low))
 
   samples-are : samplesOf m (r ∷ []) ≡ n
   unfolding samplesOf
   samples-are = omega (arith, run-count)
 
   -- what its test says
-  module _ (fits : runFits m r f n ≡ true) where
-    parts : (leb (byte m (r + 8)) 1 ≡ true)
-        × (leb 1 n ≡ true)
-        × (leb n sampleLimit ≡ true)
-        × (eqb (length m - r) (8 + runHead f + stride f * n) ≡ true)
-        × (not (has f 0x4 && has f 0x400) ≡ true)
-    unfolding runFits
-    parts =
-        five (leb (byte m (r + 8)) 1) (leb 1 n) (leb n sampleLimit) (eqb (length m - r) (8 + runHead f + stride f * n)) (not (has f 0x4 && has f 0x400))
-        fits
+  parts : (leb (byte m (r + 8)) 1 ≡ true)
+      × (leb 1 n ≡ true)
+      × (leb n sampleLimit ≡ true)
+      × (eqb c (8 + runHead f + stride f * n) ≡ true)
+      × (not (has f 0x4 && has f 0x400) ≡ true)
+  unfolding runFits
+  parts =
+      each-on (leb (byte m (r + 8)) 1) (leb 1 n) (leb n sampleLimit) (eqb c (8 + runHead f + stride f * n)) (not (has f 0x4 && has f 0x400))
+      (x .fits)
 
-    pub run-few : n ≤ 65536
-    run-few = leb-true n 65536 (parts .2)
+  pub run-few : n ≤ 65536
+  run-few = leb-true n 65536 (parts .2)
 
-    sized : runSized m r ≡ true
-    unfolding runSized version
-    sized = rw (run-flags, run-count, run-size, run-begins, parts .0) (parts .3)
+  sized : runSized m r ≡ true
+  unfolding runSized version
+  sized = rw (run-flags, run-count, run-size, run-begins, parts .0) (parts .3)
 
-    pub run-shape : (base : ℕ) → runShape base m r ≡ Holds
-    unfolding runShape rule15runs rule16runs must _then_
-    run-shape base = rw (sized, run-flags, parts .4, samples-are, parts .1, parts .2)
+  run-shape : (base : ℕ) → runShape base m r ≡ Holds
+  unfolding runShape rule15runs rule16runs must _then_
+  run-shape base = rw (sized, run-flags, parts .4, samples-are, parts .1, parts .2)
 
-    -- its first sample, its offset, and what its samples come to
-    module _ (d : Defaults) where
-      first-are : firstFlags m d (r ∷ []) ≡ firstFlagsBehind m (r + 8) f d
-      unfolding firstFlags firstFlagsOf firstFlagsBehind field
-      first-are = rw (run-count, ne-eqb n 0 (λ z. omega (arith, z, leb-true 1 n (parts .1))), run-flags, run-begins)
+  -- its first sample, its offset, and what its samples come to
+  module _ (d : Defaults) where
+    first-are : firstFlags m d (r ∷ []) ≡ firstFlagsBehind m (r + 8) f d
+    unfolding firstFlags
+    first-are =
+        rw (run-count, ne-eqb n 0 (λ z. omega (arith, z, leb-true 1 n (parts .1)))) (sym (first-at m r (r + 8) f (sym run-flags) (omega (arith, run-begins)) d))
 
-      placed-is : (e : ℕ) → placed true m r e ≡ placedBehind true m (r + 8) f e
-      unfolding placed offsetIs placedBehind field
-      placed-is e = rw (run-flags, run-begins)
+    placed-is : (e : ℕ) → placed true m r e ≡ placedBehind true m (r + 8) f e
+    placed-is e = sym (placed-at m r (r + 8) f (sym run-flags) (omega (arith, run-begins)) true e)
 
-      pub ticks-are : (t : ℕ) → Summed (durationOf m d r) n t → durationsOf m d (r ∷ []) ≡ t
+    module _ (from step ticks bytes : ℕ) (here : from ≡ r + 8 + runHead f) (apart : step ≡ stride f) (t : Summed (ownTicks m from step f (d .duration)) n ticks) (b : Summed (ownBytes m from step f (d .size)) n bytes) where
+      behind : from ≡ r + headOf m r + runHead f
+      behind = omega (arith, here, run-begins)
+
+      ticks-are : durationsOf m d (r ∷ []) ≡ ticks
       unfolding durationsOf runDuration
-      ticks-are t s = rw run-count (omega (arith, s .total))
+      ticks-are = rw run-count (omega (arith, run-ticks m d r n ticks from step f behind apart (sym run-flags) t .total))
 
-      bytes-are : (t : ℕ) → Summed (bytesOf m d r) n t → bytesIn m d (r ∷ []) ≡ t
+      bytes-are : bytesIn m d (r ∷ []) ≡ bytes
       unfolding bytesIn runBytes
-      bytes-are t s = rw run-count (omega (arith, s .total))
+      bytes-are = rw run-count (omega (arith, run-bytes m d r n bytes from step f behind apart (sym run-flags) b .total))
 
-      pub run-timing :
-          (base start head payload ticks bytes : ℕ) → placedBehind true m (r + 8) f (length m + head) ≡ true →
-          not (has (firstFlagsBehind m (r + 8) f d) 0x10000) ≡ true → Summed (durationOf m d r) n ticks → Summed (bytesOf m d r) n bytes →
-          runTiming base m d start head payload r ≡ closing base r (length m) start payload ticks bytes
-      unfolding runTiming closing rule22runs must _then_
-      run-timing base start head payload ticks bytes p s t b =
-          rw (ticks-are ticks t, bytes-are bytes b, first-are, s, placed-is (length m + head), p)
+      module _ (base start head payload : ℕ) (tiled : placedBehind true m (r + 8) f (length m + head) ≡ true) (first : ℕ) (is : first ≡ firstFlagsBehind m (r + 8) f d) (sync : not (has first 0x10000) ≡ true) where
+        run-timing : runTiming base m d start head payload r ≡ closing base r (length m) start payload ticks bytes
+        unfolding runTiming closing rule22runs must _then_
+        run-timing = rw (ticks-are, bytes-are, first-are, ← is, sync, placed-is (length m + head), tiled)
+
+        -- what is left of its rules is all of them
+        pub run-is : (g : Fragment) → saysSpan g (closing base r (length m) start payload ticks bytes) start ticks → saysRest (Known g) base m d start head payload r
+        run-is g says = (run-shape base, rw (run-timing, ticks-are) says)
 
 -- the whole fragment, by its `mfhd`, its `tfhd` and its `tfdt`, whose fields are read behind short headers
-module _ (m : List ℕ) (t r : ℕ) (u : UsualAt m t r) (f id : ℕ) (flags : f ≡ be4 m 40) (fits : headsFit m t f id ≡ true) where
+module _ (m : List ℕ) (t r c : ℕ) (u : UsualAt m t r c) (f id : ℕ) (flags : f ≡ be4 m 40) (fits : headsFit m t f id ≡ true) where
   tests : (eqb (byte m 16) 0 ≡ true)
       × (ltb f 16777216 ≡ true)
       × (eqb (t - 32) (tfhdSize f) ≡ true)
@@ -114,7 +118,7 @@ module _ (m : List ℕ) (t r : ℕ) (u : UsualAt m t r) (f id : ℕ) (flags : f 
       × (eqb (be4 m 44) id ≡ true)
   unfolding headsFit
   tests =
-      five (eqb (byte m 16) 0) (ltb f 16777216) (eqb (t - 32) (tfhdSize f)) (not (has f 0x1) && not (has f 0x10000) && has f 0x20000) (eqb (be4 m 44) id)
+      each-on (eqb (byte m 16) 0) (ltb f 16777216) (eqb (t - 32) (tfhdSize f)) (not (has f 0x1) && not (has f 0x10000) && has f 0x20000) (eqb (be4 m 44) id)
       fits
 
   mfhd-head : headOf m 8 ≡ 8

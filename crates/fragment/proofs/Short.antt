@@ -1,21 +1,20 @@
--- Laws of short headers: what stands there, the boxes in the rest of a slice, and the body of a container that ends with it.
-use mathlib.Core.Path.{_≡_, refl, ap, _∙_}
-use mathlib.Core.List.{List, [], _∷_}
-use mathlib.Core.Bool.{Bool, true, false, _&&_}
+-- Laws of short headers: what stands there, the boxes in a part of a slice, and the body of a container.
+use mathlib.Core.Path.{_≡_, ap, _∙_}
+use mathlib.Core.List.{List, _∷_}
+use mathlib.Core.Bool.{true}
 use Prim.Native.Nat.{ℕ, _+_, _-_, _≤_}
 use native.Mathlib.Omega.{arith}
-use lib.ListN.{length, drop, length-drop}
-use lib.Dec.{eqb}
-use borrow.Author.Tests.{le-ltb, eqb-true, ne-eqb}
+use lib.ListN.{length, drop, length-take, length-drop}
+use borrow.Author.Tests.{le-ltb, ne-eqb}
 use Rattle.numbers.specs.Numbers.{byte, be4, be8}
-use Rattle.numbers.proofs.Bounds.{reads4, in-drop}
-use Rattle.rules.specs.Boxes.{sized, lookAt, look, boxes, body, headOf, sizeOf}
+use Rattle.numbers.proofs.Bounds.{reads4, in-drop, in-take}
+use Rattle.rules.specs.Boxes.{part, sized, lookAt, look, boxes, body, headOf}
 use Rattle.rules.specs.Header.{shortSize, version, field, versioned}
 use Rattle.rules.specs.declared.Look.the-variants.{Header}
-use Rattle.rules.proofs.Forest.{look-nothing, boxes-nothing, boxes-box}
-use Rattle.fields.proofs.Laws.{head-short, size-short, part-all}
+use Rattle.rules.proofs.Forest.{boxes-box}
+use Rattle.fields.proofs.Laws.{head-short, size-short}
 use Rattle.fragment.specs.Bodies.{timeAt}
-use Rattle.fragment.specs.Usual.{headed}
+use Rattle.fragment.specs.Usual.{BoxAt}
 
 -- a size that has room for a short header is not the mark of a long one
 not-long : {z : ℕ} (s : List ℕ) (at : ℕ) → be4 s at ≡ z → 8 ≤ z → be4 s at ≡ 1 → ⊥
@@ -33,32 +32,17 @@ look-short s at low fits =
       le-ltb (length s - at) (be4 s at) (omega arith),
     )
 
--- both of two tests
-pub both : (a b : Bool) → (a && b) ≡ true → (a ≡ true) × (b ≡ true)
-both true b e = (refl, e)
-both false b e = (e, cc)
-
--- what is said of a header
-module _ (m : List ℕ) (at z k : ℕ) (h : headed m at z k ≡ true) where
-  pub headed-size : be4 m at ≡ z
-  unfolding headed
-  headed-size = eqb-true (be4 m at) z (both (eqb (be4 m at) z) (eqb (be4 m (at + 4)) k) h .0)
-
-  pub headed-kind : be4 m (at + 4) ≡ k
-  unfolding headed
-  headed-kind = eqb-true (be4 m (at + 4)) k (both (eqb (be4 m at) z) (eqb (be4 m (at + 4)) k) h .1)
-
--- the box at a place of the rest of a slice, and no box at the end
+-- the box at a place of a part
 pub box-short :
-    (m : List ℕ) (a p q z k : ℕ) → headed m q z k ≡ true → a + p ≡ q → 8 ≤ z → q + z ≤ length m →
-    boxes (drop a m) p ≡ record { at = p; head = 8; size = z; kind = k } ∷ boxes (drop a m) (p + z)
-box-short m a p q z k h is low fits =
-    let e : be4 (drop a m) p ≡ z = in-drop reads4 a m p ∙ ap (be4 m) is ∙ headed-size m q z k h in
-    let f : be4 (drop a m) (p + 4) ≡ k = in-drop reads4 a m (p + 4) ∙ ap (be4 m) (omega (arith, is)) ∙ headed-kind m q z k h in
-    boxes-box (drop a m) p 8 z k (look-short (drop a m) p (omega arith) (omega (arith, length-drop a m)) ∙ rw (e, f))
-
-pub box-none : (m : List ℕ) (a p : ℕ) → length m ≤ a + p → boxes (drop a m) p ≡ []
-box-none m a p h = boxes-nothing (drop a m) p (look-nothing (drop a m) p (omega (arith, length-drop a m)))
+    (m : List ℕ) (a n p : ℕ) {q end z k : ℕ} → a + n ≤ length m → BoxAt m q end z k → a + p ≡ q → end ≤ a + n →
+    boxes (part m a n) p ≡ record { at = p; head = 8; size = z; kind = k } ∷ boxes (part m a n) (p + z)
+box-short m a n p {q} {end} {z} {k} fits x is inner =
+    let e : be4 (part m a n) p ≡ z = in-take reads4 n (drop a m) p (omega (arith, x .low, x .fits, is)) ∙ in-drop reads4 a m p ∙ ap (be4 m) is ∙ x .size in
+    let f : be4 (part m a n) (p + 4) ≡ k
+    = in-take reads4 n (drop a m) (p + 4) (omega (arith, x .low, x .fits, is)) ∙ in-drop reads4 a m (p + 4) ∙ ap (be4 m) (omega (arith, is)) ∙ x .kind in
+    let l : length (part m a n) ≡ n = simp (length-take, length-drop) (omega (arith, fits)) in
+    boxes-box (part m a n) p 8 z k
+    (look-short (part m a n) p (omega (arith, e, x .low)) (omega (arith, e, l, x .fits, is)) ∙ rw (e, f))
 
 -- the box at a place has a short header of this size
 module _ (m : List ℕ) (at z : ℕ) (e : be4 m at ≡ z) (low : 8 ≤ z) where
@@ -69,10 +53,10 @@ module _ (m : List ℕ) (at z : ℕ) (e : be4 m at ≡ z) (low : 8 ≤ z) where
   unfolding shortSize
   short-size = omega (arith, size-short m at (not-long m at e low), short-head)
 
-  -- its body, where it ends with the slice
-  pub body-rest : at + z ≡ length m → body m at ≡ drop (at + 8) m
+  -- its body
+  pub body-short : body m at ≡ part m (at + 8) (z - 8)
   unfolding body
-  body-rest end = rw (size-short m at (not-long m at e low), short-head) (part-all m (at + 8) (be4 m at - 8) (omega arith))
+  body-short = rw (size-short m at (not-long m at e low), short-head, e)
 
 -- a `tfdt` of version 0 and of version 1
 module _ (m : List ℕ) (at : ℕ) where

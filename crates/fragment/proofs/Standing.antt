@@ -7,11 +7,13 @@ use lib.ListN.{length}
 use Rattle.rules.specs.Kinds.{traf, tfhd, tfdt, trun}
 use Rattle.rules.specs.Rules.{_then_, must}
 use Rattle.rules.specs.Boxes.{body, boxes, kids, child, seen, firstOf, headOf}
-use Rattle.rules.specs.Header.{versioned, plain}
-use Rattle.rules.specs.Fragment.{trafIn, tfhdIn, tfdtIn, firstRun, runsIn, shifted, flagsOf, tfhdSize, rule14, rule15, rule15runs, startOf}
+use Rattle.rules.specs.Header.{field, versioned, plain}
+use Rattle.rules.specs.Fragment.{trafIn, tfhdIn, tfdtIn, firstRun, runsIn, shifted, flagsOf, tfhdSize, rule14, rule15, rule15runs, startOf, defaultsIn}
+use Rattle.rules.specs.declared.Defaults.{Defaults}
 use Rattle.rules.proofs.Then.{then-assoc}
 use Rattle.fragment.specs.Bodies.{timeAt}
 use Rattle.fragment.specs.Counts.{rule14moof, rule14traf, Stand}
+use Rattle.fragment.specs.Layout.{defaultsFrom, defaultsBehind, defaultsAt}
 use Rattle.fragment.specs.Runs.{runsAt}
 use Rattle.fragment.specs.declared.counts.Moof.{Moof}
 use Rattle.fragment.proofs.First.{Skips, skips}
@@ -41,6 +43,11 @@ module _ (m : List ℕ) (x : Moof) (st : Stand m x) where
 
   pub run-is : x .run ≡ firstRun m
   run-is = st .run .is ∙ ap (λ (t : ℕ). child m t trun) (st .traf .is)
+
+  -- the defaults of the fragment's `tfhd`
+  pub defaults-are : (d : Defaults) → defaultsAt m (x .tfhd) d ≡ defaultsIn m d
+  unfolding defaultsAt defaultsBehind defaultsFrom defaultsIn field
+  defaults-are d = rw tfhd-is
 
   -- the runs in the body of `traf`
   runs-are : (b : List ℕ) (shift : ℕ) → b ≡ body m (x .traf) → shift ≡ x .traf + headOf m (x .traf) → runsAt b shift 0 ≡ runsIn m

@@ -1,15 +1,17 @@
--- Laws of the walk that sums the runs and tries their offsets, and of the walk to the first sample.
-use mathlib.Core.Path.{_≡_, refl, sym, ap, _∙_}
+-- Laws of the walk over the runs that sums their samples, tries their offsets and finds the first sample.
+use mathlib.Core.Path.{_≡_, refl, sym, ap, subst, _∙_}
 use mathlib.Core.List.{List}
-use mathlib.Core.Bool.{Bool, true, false}
-use Prim.Native.Nat.{ℕ, _+_, _*_, _≤_}
+use mathlib.Core.Bool.{Bool, true, false, not, _&&_}
+use Prim.Native.Nat.{ℕ, _+_, _*_, _<_, _≤_}
 use native.Mathlib.Omega.{arith}
-use lib.ListN.{length}
-use borrow.Author.Tests.{eq-eqb, ne-eqb}
+use lib.Dec.{eqb}
+use borrow.Author.Tests.{eq-eqb, ne-eqb, eqb-true, eqb-false}
+use Rattle.numbers.specs.Numbers.{has, when}
 use Rattle.rules.specs.Kinds.{trun}
+use Rattle.rules.specs.Boxes.{headOf}
 use Rattle.rules.specs.Header.{field}
 use Rattle.rules.specs.Rules.{_then_, must}
-use Rattle.rules.specs.Fragment.{countOf, samplesOf, durationOf, bytesOf, runDuration, runBytes, durationsOf, bytesIn, firstFlagsOf, firstFlags, placed, rule22runs}
+use Rattle.rules.specs.Fragment.{flagsOf, runHead, stride, samplesOf, runDuration, runBytes, durationsOf, bytesIn, firstFlagsOf, firstFlags, offsetIs, placed, rule15runs, rule22runs}
 use Rattle.rules.specs.declared.Rule.{Rule}
 use Rattle.rules.specs.declared.Rule.the-variants.{Holds}
 use Rattle.rules.specs.declared.Defaults.{Defaults}
@@ -17,88 +19,168 @@ use Rattle.rules.proofs.Then.{then-holds, then-last, then-assoc}
 use Rattle.boxes.specs.Siblings.{nextOf}
 use Rattle.boxes.specs.declared.Next.{Next}
 use Rattle.boxes.specs.declared.Next.the-variants.{At, Nothing}
-use Rattle.fragment.specs.Runs.{runsAt, Tiles}
-use Rattle.fragment.specs.Samples.{Summed}
+use Rattle.fragment.specs.Layout.{firstFlagsBehind, placedBehind}
+use Rattle.fragment.specs.Runs.{runsAt, saysTrun, Surveys}
+use Rattle.fragment.specs.Samples.{ownTicks, ownBytes, Summed}
 use Rattle.fragment.specs.Told.{ruleOf}
+use Rattle.fragment.specs.declared.runs.Trun.{Trun}
+use Rattle.fragment.specs.declared.runs.Trun.the-variants.{Run}
 use Rattle.fragment.specs.declared.told.Told.{Told}
-use Rattle.fragment.proofs.Walk.{next-run, runs-next, runs-over}
+use Rattle.fragment.proofs.Sums.{run-ticks, run-bytes}
+use Rattle.fragment.proofs.Walk.{runs-next, runs-over, Surveyed, surveyed-all, surveyed-more}
 
--- what the walk knows at a place of the body: the sums of the runs passed, and rule 22 of them
-pub record Tiled (base : ℕ) (m : List ℕ) (d : Defaults) (from : ℕ) (b : List ℕ) (shift start at : ℕ) (first : Bool) (ticks bytes : ℕ) (tiled : Rule) : Type 0 where
+-- the sums of the runs passed at a place of the body, and rule 22 of them
+pub record Tiled (base : ℕ) (m : List ℕ) (d : Defaults) (from : ℕ) (b : List ℕ) (shift start at : ℕ) (lead : Bool) (ticks bytes : ℕ) (tiled : Rule) : Type 0 where
   pub ticksAll : durationsOf m d (runsAt b shift start) ≡ ticks + durationsOf m d (runsAt b shift at)
   pub bytesAll : bytesIn m d (runsAt b shift start) ≡ bytes + bytesIn m d (runsAt b shift at)
-  pub tiledAll : rule22runs base m d true from (runsAt b shift start) ≡ (tiled then rule22runs base m d first (from + bytes) (runsAt b shift at))
-  pub ticksLow : ticks + 4294967295 * samplesOf m (runsAt b shift at) ≤ 281474976645120
-  pub bytesLow : bytes + 4294967295 * samplesOf m (runsAt b shift at) ≤ 281474976645120
-  pub inner : at ≤ length b
+  pub tiledAll : rule22runs base m d true from (runsAt b shift start) ≡ (tiled then rule22runs base m d lead (from + bytes) (runsAt b shift at))
 
-pub tiled-none :
-    (base : ℕ) (m : List ℕ) (d : Defaults) (from : ℕ) (b : List ℕ) (shift start : ℕ) → samplesOf m (runsAt b shift start) ≤ 65536 → start ≤ length b →
-    Tiled base m d from b shift start start true 0 0 Holds
-tiled-none base m d from b shift start h low =
+-- what the walk knows beside the survey: bounds of the sums, the first sample, and the sums where the samples in all are few
+pub record Known (base : ℕ) (m : List ℕ) (d : Defaults) (from : ℕ) (b : List ℕ) (shift start at : ℕ) (lead : Bool) (samples ticks bytes first : ℕ) (tiled : Rule) : Type 0 where
+  pub ticksLow : ticks ≤ 4294967295 * samples
+  pub bytesLow : bytes ≤ 4294967295 * samples
+  pub begun : firstFlags m d (runsAt b shift start) ≡ when (eqb samples 0) (firstFlags m d (runsAt b shift at)) first
+  pub unbegun : samples ≡ 0 → first ≡ 0
+  pub sums : samplesOf m (runsAt b shift start) ≤ 65536 → Tiled base m d from b shift start at lead ticks bytes tiled
+
+pub known-none : (base : ℕ) (m : List ℕ) (d : Defaults) (from : ℕ) (b : List ℕ) (shift start : ℕ) → Known base m d from b shift start start true 0 0 0 0 Holds
+known-none base m d from b shift start =
     record {
-      ticksAll = omega arith;
-      bytesAll = omega arith;
-      tiledAll =
-          sym (then-holds _ refl ∙ ap (λ (e : ℕ). rule22runs base m d true e (runsAt b shift start)) (omega arith));
       ticksLow = omega arith;
       bytesLow = omega arith;
-      inner = low;
+      begun = refl;
+      unbegun = λ e. refl;
+      sums = λ few.
+          record {
+            ticksAll = omega arith;
+            bytesAll = omega arith;
+            tiledAll =
+                sym (then-holds _ refl ∙ ap (λ (e : ℕ). rule22runs base m d true e (runsAt b shift start)) (omega arith));
+          };
     }
 
-module _ (base : ℕ) (m : List ℕ) (d : Defaults) (from : ℕ) (b : List ℕ) (shift start at : ℕ) (first : Bool) (ticks bytes : ℕ) (w : Told) {x : Next} (s : Tiled base m d from b shift start at first ticks bytes (ruleOf w)) (says : nextOf x b at trun) where
-  pub tiled-all : x ≡ Nothing → Tiles base m d from (runsAt b shift start) (record { ticks = ticks; bytes = bytes; tiled = w })
-  unfolding durationsOf bytesIn rule22runs
-  tiled-all e =
+-- a run's offset and its first sample are those behind its header
+module _ (m : List ℕ) (r p f : ℕ) (flags : f ≡ flagsOf m r) (ends : p ≡ r + headOf m r) where
+  pub placed-at : (lead : Bool) (e : ℕ) → placedBehind lead m p f e ≡ placed lead m r e
+  unfolding placed offsetIs placedBehind field
+  placed-at lead e = rw (ends, flags)
+
+  pub first-at : (d : Defaults) → firstFlagsBehind m p f d ≡ firstFlagsOf m d r
+  unfolding firstFlagsOf firstFlagsBehind field
+  first-at d = rw (ends, flags)
+
+-- the first sample after a run more
+first-on :
+    (samples n first here rest next : ℕ) → next ≡ when (eqb samples 0) (when (eqb n 0) first here) first →
+    when (eqb samples 0) (when (eqb n 0) rest here) first ≡ when (eqb (samples + n) 0) rest next
+first-on samples n first here rest next e =
+    let by : (s t : Bool) → eqb samples 0 ≡ s → eqb n 0 ≡ t → when (eqb samples 0) (when (eqb n 0) rest here) first ≡ when (eqb (samples + n) 0) rest next
+    = elim [
+      | true ↦ elim [
+        | true ↦ λ y z. rw (y, z, eq-eqb (samples + n) 0 (omega (arith, eqb-true samples 0 y, eqb-true n 0 z)))
+        | false ↦ λ y z. rw (e, y, z, ne-eqb (samples + n) 0 (λ o. eqb-false n 0 z (omega (arith, o))))
+      ]
+      | false ↦ λ t y z. rw (e, y, ne-eqb (samples + n) 0 (λ o. eqb-false samples 0 y (omega (arith, o))))
+    ] in
+    by (eqb samples 0) (eqb n 0) refl refl
+
+module _ (base : ℕ) (m : List ℕ) (d : Defaults) (from : ℕ) (b : List ℕ) (shift start at : ℕ) (lead : Bool) (c : Told) (samples ticks bytes first : ℕ) (w : Told) {x : Next} (s : Surveyed base m b shift start at (ruleOf c) samples) (k : Known base m d from b shift start at lead samples ticks bytes first (ruleOf w)) (says : nextOf x b at trun) where
+  pub known-all :
+      x ≡ Nothing →
+      (rule15runs base m (runsAt b shift start) ≡ Holds)
+      × Surveys base m d from (runsAt b shift start) (record { clash = c; samples = samples; ticks = ticks; bytes = bytes; first = first; tiled = w })
+  unfolding durationsOf bytesIn firstFlags rule22runs
+  known-all e =
       let o = runs-over b at says shift e in
+      let all = surveyed-all base m b shift start at (ruleOf c) samples s says e in
+      let by : (t : Bool) → eqb samples 0 ≡ t → first ≡ when (eqb samples 0) 0 first
+      = elim [ true ↦ λ y. k .unbegun (eqb-true samples 0 y) ∙ rw y | false ↦ λ y. rw y ] in (
+        all .0,
+        record {
+          clash = all .1;
+          samples = all .2;
+          tiles = λ few.
+              let t = k .sums few in
+              record {
+                ticks = omega (arith, t .ticksAll, ap (durationsOf m d) o);
+                bytes = omega (arith, t .bytesAll, ap (bytesIn m d) o);
+                first = by (eqb samples 0) refl ∙ sym (k .begun ∙ ap (λ (rs : List ℕ). when (eqb samples 0) (firstFlags m d rs) first) o);
+                tiled = sym (t .tiledAll ∙ ap (λ (rs : List ℕ). ruleOf w then rule22runs base m d lead (from + bytes) rs) o ∙ then-last (ruleOf w));
+                ticksLow = omega (arith, k .ticksLow, all .2, few);
+                bytesLow = omega (arith, k .bytesLow, all .2, few);
+              };
+        },
+      )
+
+  -- past a run with these flags and so many samples, whose header ends at a place
+  module _ (p q : ℕ) (e : x ≡ At p q) {y : Trun} (told : saysTrun y m (shift + p)) (f n z : ℕ) (is : y ≡ Run f n z) (low : n ≤ 4294967295) (ok : Bool) (apart : ok ≡ not (has f 0x4 && has f 0x400)) (clash : Rule) (clashed : clash ≡ (ruleOf c then must ok 16 (base + (shift + p)))) (first′ : ℕ) (sampled : first′ ≡ when (eqb samples 0) (when (eqb n 0) first (firstFlagsBehind m z f d)) first) where
+    run : saysTrun (Run f n z) m (shift + p)
+    run = subst (λ (t : Trun). saysTrun t m (shift + p)) is told
+
+    surveyed-on : Surveyed base m b shift start q clash (samples + n)
+    surveyed-on = surveyed-more base m b shift start at (ruleOf c) samples s says p q e told f n z ok is low apart clash clashed
+
+    begun-on : firstFlags m d (runsAt b shift start) ≡ when (eqb (samples + n) 0) (firstFlags m d (runsAt b shift q)) first′
+    unfolding firstFlags
+    begun-on =
+        k .begun
+        ∙ ap (λ (rs : List ℕ). when (eqb samples 0) (firstFlags m d rs) first) (runs-next b at says shift e)
+        ∙ rw (← run .2, ← first-at m (shift + p) z f (run .1) (run .3) d) (first-on samples n first (firstFlagsBehind m z f d) (firstFlags m d (runsAt b shift q)) first′ sampled)
+
+    unbegun-on : samples + n ≡ 0 → first′ ≡ 0
+    unbegun-on o = sampled ∙ rw (eq-eqb samples 0 (omega (arith, o)), eq-eqb n 0 (omega (arith, o))) (k .unbegun (omega (arith, o)))
+
+    -- one that makes the samples too many
+    pub known-over :
+        65536 < samples + n →
+        Surveyed base m b shift start q clash (samples + n)
+        × Known base m d from b shift start q false (samples + n) ticks bytes first′ (ruleOf w)
+    known-over many = (
+      surveyed-on,
       record {
-        ticks = omega (arith, s .ticksAll, ap (durationsOf m d) o);
-        bytes = omega (arith, s .bytesAll, ap (bytesIn m d) o);
-        tiled = sym (s .tiledAll ∙ ap (λ (rs : List ℕ). ruleOf w then rule22runs base m d first (from + bytes) rs) o ∙ then-last (ruleOf w));
-        ticksLow = omega (arith, s .ticksLow);
-        bytesLow = omega (arith, s .bytesLow);
-      }
+        ticksLow = omega (arith, k .ticksLow);
+        bytesLow = omega (arith, k .bytesLow);
+        begun = begun-on;
+        unbegun = unbegun-on;
+        sums = λ few. absurd (omega (arith, few, surveyed-on .counted, many));
+      },
+    )
 
-  module _ (p q : ℕ) (e : x ≡ At p q) where
-    -- the run's samples are few
-    pub tiled-few : countOf m (shift + p) + samplesOf m (runsAt b shift q) ≤ 65536
-    unfolding samplesOf
-    tiled-few = omega (arith, s .ticksLow, ap (samplesOf m) (runs-next b at says shift e))
-
-    pub tiled-more :
-        (own : Bool) (next : Rule) (t u : ℕ) → own ≡ placed first m (shift + p) (from + bytes) →
-        next ≡ (ruleOf w then must own 22 (base + (shift + p))) →
-        Summed (durationOf m d (shift + p)) (countOf m (shift + p)) t → Summed (bytesOf m d (shift + p)) (countOf m (shift + p)) u →
-        Tiled base m d from b shift start q false (ticks + t) (bytes + u) next
-    unfolding samplesOf durationsOf bytesIn runDuration runBytes rule22runs
-    tiled-more own next t u o n v z =
+    -- one that doesn't
+    pub known-more :
+        (own : Bool) (next : Rule) (g step t u : ℕ) → own ≡ placedBehind lead m z f (from + bytes) →
+        next ≡ (ruleOf w then must own 22 (base + (shift + p))) → g ≡ z + runHead f → step ≡ stride f →
+        Summed (ownTicks m g step f (d .duration)) n t → Summed (ownBytes m g step f (d .size)) n u →
+        Surveyed base m b shift start q clash (samples + n)
+        × Known base m d from b shift start q false (samples + n) (ticks + t) (bytes + u) first′ next
+    unfolding durationsOf bytesIn runDuration runBytes rule22runs
+    known-more own next g step t u o h i j v′ z′ =
+        let r = shift + p in
         let more = runs-next b at says shift e in
         let rest = runsAt b shift q in
-        let place : from + bytes + runBytes m d (shift + p) ≡ from + (bytes + u) = omega (arith, z .total) in
-        record {
-          ticksAll = omega (arith, s .ticksAll, ap (durationsOf m d) more, v .total);
-          bytesAll = omega (arith, s .bytesAll, ap (bytesIn m d) more, z .total);
-          tiledAll =
-              s .tiledAll
-              ∙ ap (λ (rs : List ℕ). ruleOf w then rule22runs base m d first (from + bytes) rs) more
-              ∙ ap (λ (y : ℕ). ruleOf w then (must (placed first m (shift + p) (from + bytes)) 22 (base + (shift + p)) then rule22runs base m d false y rest)) place
-              ∙ rw (← o, n) (sym (then-assoc (ruleOf w) (must own 22 (base + (shift + p))) (rule22runs base m d false (from + (bytes + u)) rest)));
-          ticksLow = omega (arith, s .ticksLow, ap (samplesOf m) more, v .small);
-          bytesLow = omega (arith, s .bytesLow, ap (samplesOf m) more, z .small);
-          inner = next-run b at says e .inner;
-        }
-
--- the first sample: past a run that has none, and at one that has
-module _ (m : List ℕ) (d : Defaults) (b : List ℕ) (shift start at : ℕ) {x : Next} (s : firstFlags m d (runsAt b shift start) ≡ firstFlags m d (runsAt b shift at)) (says : nextOf x b at trun) where
-  pub first-none : x ≡ Nothing → 0 ≡ firstFlags m d (runsAt b shift start)
-  unfolding firstFlags
-  first-none e = sym (s ∙ ap (firstFlags m d) (runs-over b at says shift e))
-
-  module _ (p q : ℕ) (e : x ≡ At p q) (n : ℕ) (count : n ≡ field m (shift + p) 4) where
-    pub first-past : n ≡ 0 → firstFlags m d (runsAt b shift start) ≡ firstFlags m d (runsAt b shift q)
-    unfolding firstFlags countOf
-    first-past z = s ∙ ap (firstFlags m d) (runs-next b at says shift e) ∙ rw (← count, eq-eqb _ _ z)
-
-    pub first-here : (n ≡ 0 → ⊥) → firstFlagsOf m d (shift + p) ≡ firstFlags m d (runsAt b shift start)
-    unfolding firstFlags countOf
-    first-here z = sym (s ∙ ap (firstFlags m d) (runs-next b at says shift e) ∙ rw (← count, ne-eqb _ _ z))
+        let fields : g ≡ r + headOf m r + runHead f = omega (arith, i, run .3) in
+        let v = run-ticks m d r n t g step f fields j (run .1) v′ in
+        let y = run-bytes m d r n u g step f fields j (run .1) z′ in
+        let lasts : t ≡ runDuration m d r = rw (← run .2) (v .total) in
+        let fills : u ≡ runBytes m d r = rw (← run .2) (y .total) in
+        let place : from + bytes + runBytes m d r ≡ from + (bytes + u) = omega (arith, fills) in
+        let test : own ≡ placed lead m r (from + bytes) = o ∙ placed-at m r z f (run .1) (run .3) lead (from + bytes) in (
+          surveyed-on,
+          record {
+            ticksLow = omega (arith, k .ticksLow, v .small);
+            bytesLow = omega (arith, k .bytesLow, y .small);
+            begun = begun-on;
+            unbegun = unbegun-on;
+            sums = λ few.
+                let a = k .sums few in
+                record {
+                  ticksAll = omega (arith, a .ticksAll, ap (durationsOf m d) more, lasts);
+                  bytesAll = omega (arith, a .bytesAll, ap (bytesIn m d) more, fills);
+                  tiledAll =
+                      a .tiledAll
+                      ∙ ap (λ (rs : List ℕ). ruleOf w then rule22runs base m d lead (from + bytes) rs) more
+                      ∙ ap (λ (l : ℕ). ruleOf w then (must (placed lead m r (from + bytes)) 22 (base + r) then rule22runs base m d false l rest)) place
+                      ∙ rw (← test, h) (sym (then-assoc (ruleOf w) (must own 22 (base + r)) (rule22runs base m d false (from + (bytes + u)) rest)));
+                };
+          },
+        )

@@ -1,71 +1,106 @@
 -- Laws of the usual layout: where its boxes stand is where rule 14 finds them.
-use mathlib.Core.Path.{_≡_, refl, sym, ap, _∙_}
+use mathlib.Core.Path.{_≡_, refl, ap, _∙_}
 use mathlib.Core.List.{List, [], _∷_}
-use mathlib.Core.Bool.{true}
-use Prim.Native.Nat.{ℕ, _+_, _-_, _≤_}
+use mathlib.Core.Bool.{Bool, true, false}
+use Prim.Native.Nat.{ℕ, _+_, _-_, _<_, _≤_}
 use native.Mathlib.Omega.{arith}
-use lib.ListN.{length, drop}
-use Rattle.numbers.specs.Numbers.{be4}
+use lib.ListN.{length, length-take, length-drop}
+use lib.Dec.{eqb}
+use Rattle.numbers.specs.Numbers.{be4, when}
 use Rattle.rules.specs.Kinds.{mfhd, traf, tfhd, tfdt, trun, named}
-use Rattle.rules.specs.Boxes.{Box, boxes, kids, child, seen, seenFrom, placesOf, headOf}
+use Rattle.rules.specs.Boxes.{Box, part, boxes, kids, child, again, seen, seenFrom, placesOf, headOf}
 use Rattle.rules.specs.Header.{one, oneOf, someOf}
-use Rattle.rules.specs.Fragment.{trafIn, tfhdIn, tfdtIn, firstRun, runsIn, shifted, rule14}
+use Rattle.rules.specs.Fragment.{trafIn, runsIn, shifted, rule14}
 use Rattle.rules.specs.Rules.{_then_}
 use Rattle.rules.specs.declared.Rule.the-variants.{Holds}
+use Rattle.rules.specs.declared.Seen.{Seen}
 use Rattle.rules.specs.declared.Seen.the-variants.{Once}
-use Rattle.fragment.specs.Usual.{headed, UsualAt}
-use Rattle.fragment.proofs.Short.{headed-size, box-short, box-none, short-head, body-rest}
+use Rattle.rules.proofs.Forest.{look-nothing, boxes-nothing, places-end}
+use Rattle.fragment.specs.Usual.{BoxAt, NoneOf, UsualAt}
+use Rattle.fragment.proofs.First.{named-is}
+use Rattle.fragment.proofs.Short.{box-short, short-head, body-short}
 
-module _ (m : List ℕ) (n a b : ℕ) (size : be4 m 0 ≡ n) (all : n ≡ length m) (outer : headed m 8 16 mfhd ≡ true) (inner : headed m 24 (n - 24) traf ≡ true) (first : headed m 32 a tfhd ≡ true) (second : headed m (32 + a) b tfdt ≡ true) (third : headed m (32 + a + b) (n - (32 + a + b)) trun ≡ true) (la : 16 ≤ a) (lb : 16 ≤ b) (fits : 48 + a + b ≤ n) (small : n ≤ 4294967295) where
+-- no byte is left in a part, so no box
+pub none-left : (m : List ℕ) (a n p v w x : ℕ) → n ≤ p → NoneOf (part m a n) p v w x
+none-left m a n p v w x h =
+    let short : length (part m a n) ≤ p = simp (length-take, length-drop) (omega (arith, h)) in
+    let e = boxes-nothing (part m a n) p (look-nothing (part m a n) p short) in
+    record { first = places-end _ p v e; second = places-end _ p w e; third = places-end _ p x e }
+
+-- what was seen stays so where no box of the type follows
+seen-stays : (w : ℕ) → 0 < w → (v : Seen) (xs : List Box) → placesOf w xs ≡ [] → seenFrom v w xs ≡ v
+unfolding seenFrom placesOf
+seen-stays w h v [] e = refl
+seen-stays w h v (x ∷ xs) e =
+    let by : (t : Bool) → when t (x .at ∷ placesOf w xs) (placesOf w xs) ≡ [] → seenFrom (when t (again (x .at) v) v) w xs ≡ v
+    = elim [ true ↦ λ n. absurd (omega (arith, ap length n)) | false ↦ λ n. seen-stays w h v xs n ] in
+    rw (named-is w (x .kind) h) (by (eqb (x .kind) w) e)
+
+module _ (m : List ℕ) (n y z a b c : ℕ) (size : be4 m 0 ≡ n) (all : n ≡ length m) (outer : BoxAt m 8 24 y mfhd) (inner : BoxAt m 24 n z traf) (first : BoxAt m 32 (24 + z) a tfhd) (second : BoxAt m (32 + a) (24 + z) b tfdt) (third : BoxAt m (32 + a + b) (24 + z) c trun) (after : NoneOf (part m 32 (24 + z - 32)) (32 + a + b + c - 32) tfhd tfdt trun) (last : NoneOf (part m 8 (n - 8)) (24 + z - 8) mfhd traf traf) (small : n ≤ 4294967295) where
+  -- how the sizes lie
+  mfhd-size : y ≡ 16
+  mfhd-size = omega (arith, outer .low, outer .fits)
+
+  long : 24 + z ≤ n
+  long = inner .fits
+
+  deep : 56 ≤ z
+  deep = omega (arith, first .low, second .low, third .low, third .fits)
+
   -- the boxes of `moof`
-  in-moof : kids m 0 ≡ record { at = 0; head = 8; size = 16; kind = mfhd } ∷ record { at = 16; head = 8; size = n - 24; kind = traf } ∷ []
+  in-moof : kids m 0 ≡ record { at = 0; head = 8; size = y; kind = mfhd } ∷ record { at = 16; head = 8; size = z; kind = traf } ∷ boxes (part m 8 (n - 8)) (24 + z - 8)
   unfolding kids
   in-moof =
-      rw (body-rest m 0 n size (omega arith) (omega arith))
-      (box-short m 8 0 8 16 mfhd outer refl (omega arith) (omega arith)
-      ∙ ap (λ (xs : List Box). record { at = 0; head = 8; size = 16; kind = mfhd } ∷ xs)
-      (box-short m 8 16 24 (n - 24) traf inner refl (omega arith) (omega arith)
-      ∙ ap (λ (xs : List Box). record { at = 16; head = 8; size = n - 24; kind = traf } ∷ xs) (box-none m 8 (16 + (n - 24)) (omega arith))))
+      let fits : 8 + (n - 8) ≤ length m = omega (arith, all, long, deep) in
+      rw (body-short m 0 n size (omega (arith, long, deep)))
+      (box-short m 8 (n - 8) 0 fits outer refl (omega (arith, long, deep))
+      ∙ ap (λ (xs : List Box). record { at = 0; head = 8; size = y; kind = mfhd } ∷ xs)
+      (ap (boxes (part m 8 (n - 8))) (omega (arith, mfhd-size))
+      ∙ box-short m 8 (n - 8) 16 fits inner refl (omega (arith, long, deep))
+      ∙ ap (λ (p : ℕ). record { at = 16; head = 8; size = z; kind = traf } ∷ boxes (part m 8 (n - 8)) p) (omega arith)))
 
   -- the boxes of `traf`
-  in-traf : kids m 24 ≡ record { at = 0; head = 8; size = a; kind = tfhd } ∷ record { at = a; head = 8; size = b; kind = tfdt } ∷ record { at = a + b; head = 8; size = n - (32 + a + b); kind = trun } ∷ []
+  in-traf : kids m 24 ≡ record { at = 0; head = 8; size = a; kind = tfhd } ∷ record { at = a; head = 8; size = b; kind = tfdt } ∷ record { at = a + b; head = 8; size = c; kind = trun } ∷ boxes (part m 32 (24 + z - 32)) (32 + a + b + c - 32)
   unfolding kids
   in-traf =
-      rw (body-rest m 24 (n - 24) (headed-size m 24 (n - 24) traf inner) (omega arith) (omega arith))
-      (box-short m 32 0 32 a tfhd first refl (omega arith) (omega arith)
+      let fits : 32 + (24 + z - 32) ≤ length m = omega (arith, all, long, deep) in
+      let ends : 24 + z ≤ 32 + (24 + z - 32) = omega (arith, deep) in
+      let left : z - 8 ≡ 24 + z - 32 = omega (arith, deep) in
+      rw (body-short m 24 z (inner .size) (omega (arith, deep)), left)
+      (box-short m 32 (24 + z - 32) 0 fits first refl ends
       ∙ ap (λ (xs : List Box). record { at = 0; head = 8; size = a; kind = tfhd } ∷ xs)
-      (ap (boxes (drop 32 m)) (omega arith)
-      ∙ box-short m 32 a (32 + a) b tfdt second refl (omega arith) (omega arith)
+      (ap (boxes (part m 32 (24 + z - 32))) (omega arith)
+      ∙ box-short m 32 (24 + z - 32) a fits second refl ends
       ∙ ap (λ (xs : List Box). record { at = a; head = 8; size = b; kind = tfdt } ∷ xs)
-      (box-short m 32 (a + b) (32 + a + b) (n - (32 + a + b)) trun third (omega arith) (omega arith) (omega arith)
-      ∙ ap (λ (xs : List Box). record { at = a + b; head = 8; size = n - (32 + a + b); kind = trun } ∷ xs) (box-none m 32 (a + b + (n - (32 + a + b))) (omega arith)))))
+      (box-short m 32 (24 + z - 32) (a + b) fits third (omega arith) ends
+      ∙ ap (λ (p : ℕ). record { at = a + b; head = 8; size = c; kind = trun } ∷ boxes (part m 32 (24 + z - 32)) p) (omega arith))))
 
   moof-head : headOf m 0 ≡ 8
-  moof-head = short-head m 0 n size (omega arith)
+  moof-head = short-head m 0 n size (omega (arith, long, deep))
 
   traf-head : headOf m 24 ≡ 8
-  traf-head = short-head m 24 (n - 24) (headed-size m 24 (n - 24) traf inner) (omega arith)
+  traf-head = short-head m 24 z (inner .size) (omega (arith, deep))
 
   -- each type is seen once
   see-mfhd : seen mfhd (kids m 0) ≡ Once 0
   unfolding seenFrom named
-  see-mfhd = ap (seen mfhd) in-moof
+  see-mfhd = ap (seen mfhd) in-moof ∙ seen-stays mfhd (omega arith) (Once 0) _ (last .first)
 
   see-traf : seen traf (kids m 0) ≡ Once 16
   unfolding seenFrom named
-  see-traf = ap (seen traf) in-moof
+  see-traf = ap (seen traf) in-moof ∙ seen-stays traf (omega arith) (Once 16) _ (last .second)
 
   see-tfhd : seen tfhd (kids m 24) ≡ Once 0
   unfolding seenFrom named
-  see-tfhd = ap (seen tfhd) in-traf
+  see-tfhd = ap (seen tfhd) in-traf ∙ seen-stays tfhd (omega arith) (Once 0) _ (after .first)
 
   see-tfdt : seen tfdt (kids m 24) ≡ Once a
   unfolding seenFrom named
-  see-tfdt = ap (seen tfdt) in-traf
+  see-tfdt = ap (seen tfdt) in-traf ∙ seen-stays tfdt (omega arith) (Once a) _ (after .second)
 
   see-trun : seen trun (kids m 24) ≡ Once (a + b)
   unfolding seenFrom named
-  see-trun = ap (seen trun) in-traf
+  see-trun = ap (seen trun) in-traf ∙ seen-stays trun (omega arith) (Once (a + b)) _ (after .third)
 
   traf-at : trafIn m ≡ 24
   unfolding child
@@ -75,7 +110,7 @@ module _ (m : List ℕ) (n a b : ℕ) (size : be4 m 0 ≡ n) (all : n ≡ length
   unfolding rule14 one oneOf someOf _then_
   counted base = rw (traf-at, see-mfhd, see-traf, see-tfhd, see-tfdt, see-trun)
 
-  pub usually : UsualAt m (32 + a) (32 + a + b)
+  pub usually : UsualAt m (32 + a) (32 + a + b) c
   unfolding child runsIn shifted placesOf
   usually =
       record {
@@ -85,13 +120,14 @@ module _ (m : List ℕ) (n a b : ℕ) (size : be4 m 0 ≡ n) (all : n ≡ length
         tfhd = rw (traf-at, traf-head, see-tfhd);
         tfdt = rw (traf-at, traf-head, see-tfdt);
         first = rw (traf-at, traf-head, see-trun) (omega arith);
-        runs = rw (traf-at, traf-head, in-traf) (ap (λ (x : ℕ). x ∷ []) (omega arith));
-        mfhdSize = headed-size m 8 16 mfhd outer;
-        tfhdSize = ap (λ (x : ℕ). 32 + x) (headed-size m 32 a tfhd first);
-        tfdtSize = ap (λ (x : ℕ). 32 + a + x) (headed-size m (32 + a) b tfdt second);
-        runSize = omega (arith, headed-size m (32 + a + b) (n - (32 + a + b)) trun third);
-        low = omega arith;
-        middle = omega arith;
-        high = omega arith;
-        small = omega arith;
+        runs = rw (traf-at, traf-head, in-traf, after .third) (ap (λ (x : ℕ). x ∷ []) (omega arith));
+        mfhdSize = outer .size ∙ mfhd-size;
+        tfhdSize = ap (λ (x : ℕ). 32 + x) (first .size);
+        tfdtSize = ap (λ (x : ℕ). 32 + a + x) (second .size);
+        runSize = third .size;
+        low = omega (arith, first .low);
+        middle = omega (arith, second .low);
+        runLow = third .low;
+        high = omega (arith, third .fits, inner .fits, all);
+        small = omega (arith, all);
       }

@@ -72,10 +72,10 @@ module _ (base : ℕ) (m b : List ℕ) (shift start at : ℕ) (clash : Rule) (sa
         ∙ then-breaks (rule15runs base m (runsAt b shift q)) (must-false 15 (base + (shift + p)) (subst (λ (t : Trun). saysTrun t m (shift + p)) w told))
 
     pub surveyed-more :
-        (f n : ℕ) (ok : Bool) → y ≡ Run f n → n ≤ 4294967295 → ok ≡ not (has f 0x4 && has f 0x400) →
+        (f n z : ℕ) (ok : Bool) → y ≡ Run f n z → n ≤ 4294967295 → ok ≡ not (has f 0x4 && has f 0x400) →
         (next : Rule) → next ≡ (clash then must ok 16 (base + (shift + p))) → Surveyed base m b shift start q next (samples + n)
     unfolding rule15runs rule16runs samplesOf
-    surveyed-more f n ok w k a next c =
+    surveyed-more f n z ok w k a next c =
         let t = subst (λ (z : Trun). saysTrun z m (shift + p)) w told in
         let rest = runsAt b shift q in
         let more = runs-next b at says shift e in

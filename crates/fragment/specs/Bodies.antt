@@ -3,13 +3,16 @@ use Prim.Native.Nat.{ℕ, _+_}
 use mathlib.Core.Path.{_≡_}
 use mathlib.Core.List.{List}
 use mathlib.Core.Bool.{true, false}
+use lib.ListN.{length}
 use lib.Dec.{eqb}
 use Rattle.numbers.specs.Numbers.{be8, when}
 use Rattle.rules.specs.Boxes.{headOf}
 use Rattle.rules.specs.Header.{version, field, versioned, plain}
-use Rattle.rules.specs.Fragment.{tfhdIn, runsIn, flagsOf, tfhdSize, rule15, rule16runs, samplesOf, startOf}
+use Rattle.rules.specs.Fragment.{tfhdIn, runsIn, flagsOf, tfhdSize, rule15, startOf, defaultsIn}
 use Rattle.rules.specs.declared.Rule.the-variants.{Holds, Breaks}
-use Rattle.fragment.specs.Told.{ruleOf}
+use Rattle.rules.specs.declared.Defaults.{Defaults}
+use Rattle.fragment.specs.Layout.{defaultsAt}
+use Rattle.fragment.specs.Runs.{Surveys}
 use Rattle.fragment.specs.declared.bodies.Mfhd.{Mfhd}
 use Rattle.fragment.specs.declared.bodies.Mfhd.the-variants.{Plain, Wrong}
 use Rattle.fragment.specs.declared.bodies.Tfhd.{Tfhd}
@@ -29,25 +32,25 @@ abbrev pub saysMfhd : Mfhd → List ℕ → ℕ → Type 0
 saysMfhd Plain m at = plain m at 16 ≡ true
 saysMfhd Wrong m at = plain m at 16 ≡ false
 
--- `tfhd`: version 0, sized by its flags
-abbrev pub saysTfhd : Tfhd → List ℕ → ℕ → Type 0
-saysTfhd (Of f i) m at = (plain m at (tfhdSize (flagsOf m at)) ≡ true) × (f ≡ flagsOf m at) × (i ≡ field m at 4)
-saysTfhd tfhdWrong m at = plain m at (tfhdSize (flagsOf m at)) ≡ false
+-- `tfhd`: version 0, sized by its flags; its defaults, else those of `trex`
+abbrev pub saysTfhd : Tfhd → List ℕ → ℕ → Defaults → Type 0
+saysTfhd (Of f i o) m at d =
+    (plain m at (tfhdSize (flagsOf m at)) ≡ true) × (f ≡ flagsOf m at) × (i ≡ field m at 4) × (o ≡ defaultsAt m at d)
+saysTfhd tfhdWrong m at d = plain m at (tfhdSize (flagsOf m at)) ≡ false
 
 -- `tfdt`: 16 (version 0) or 20 (version 1)
 abbrev pub saysStart : Start → List ℕ → ℕ → Type 0
 saysStart (At t) m at = (versioned m at 16 20 ≡ true) × (t ≡ timeAt m at)
 saysStart startWrong m at = versioned m at 16 20 ≡ false
 
--- what the bodies say
-pub record Says (base : ℕ) (m : List ℕ) (k : Body) : Type 0 where
+-- what the bodies say, by the `trex` defaults and the header length of the `mdat`
+pub record Says (base : ℕ) (m : List ℕ) (d : Defaults) (head : ℕ) (k : Body) : Type 0 where
   pub flags : k .flags ≡ flagsOf m (tfhdIn m)
   pub id : k .id ≡ field m (tfhdIn m) 4
   pub start : k .start ≡ startOf m
-  pub clash : ruleOf (k .clash) ≡ rule16runs base m (runsIn m)
-  pub samples : k .samples ≡ samplesOf m (runsIn m)
+  pub runs : Surveys base m (defaultsIn m d) (length m + head) (runsIn m) (k .runs)
 
 -- 15, with what the bodies say
-abbrev pub saysBodies : Bodies → ℕ → List ℕ → Type 0
-saysBodies (Known k) base m = (rule15 base m ≡ Holds) × Says base m k
-saysBodies (Refused p) base m = rule15 base m ≡ Breaks 15 0 p
+abbrev pub saysBodies : Bodies → ℕ → List ℕ → Defaults → ℕ → Type 0
+saysBodies (Known k) base m d head = (rule15 base m ≡ Holds) × Says base m d head k
+saysBodies (Refused p) base m d head = rule15 base m ≡ Breaks 15 0 p

@@ -2,14 +2,17 @@
 use Prim.Native.Nat.{ℕ, _+_, _≤_}
 use mathlib.Core.Path.{_≡_}
 use mathlib.Core.List.{List}
-use mathlib.Core.Bool.{true, false, _&&_}
-use lib.Dec.{leb}
+use mathlib.Core.Bool.{true, false, not, _&&_, _||_}
+use lib.Dec.{leb, eqb}
+use Rattle.numbers.specs.Numbers.{has}
 use Rattle.rules.specs.Limits.{tickLimit}
-use Rattle.rules.specs.Rules.{_then_}
-use Rattle.rules.specs.Fragment.{startOf, endOf, rule20, rule21, rule22}
+use Rattle.rules.specs.Rules.{_then_, must}
+use Rattle.rules.specs.Fragment.{startOf, endOf}
 use Rattle.rules.specs.declared.Rule.{Rule}
 use Rattle.rules.specs.declared.Rule.the-variants.{Holds, Breaks}
 use Rattle.rules.specs.declared.Defaults.{Defaults}
+use Rattle.fragment.specs.Told.{ruleOf}
+use Rattle.fragment.specs.declared.shape.Shaped.{Shaped}
 use Rattle.fragment.specs.declared.timing.End.{End}
 use Rattle.fragment.specs.declared.timing.End.the-variants.{At, Wrong}
 use Rattle.fragment.specs.declared.Fragment.{Fragment}
@@ -20,9 +23,18 @@ abbrev pub saysEnd : End → ℕ → ℕ → Type 0
 saysEnd (At e) s t = ((leb 1 t && leb (s + t) tickLimit) ≡ true) × (e ≡ s + t) × (e ≤ tickLimit)
 saysEnd Wrong s t = (leb 1 t && leb (s + t) tickLimit) ≡ false
 
--- 20 to 22
-unfoldable pub rules20to22 : ℕ → List ℕ → Defaults → ℕ → ℕ → Rule
-rules20to22 base m d head payload = rule20 base m d then rule21 base m d then rule22 base m d head payload
+-- 20 to 22 of a fragment of good shape, by what its runs say and the length of its `moof`
+unfoldable pub spanned : ℕ → ℕ → ℕ → Shaped → Rule
+spanned base len payload s =
+    must (leb 1 (s .runs .ticks) && leb (s .start + s .runs .ticks) tickLimit) 20 (base + s .boxes .run)
+    then must (not (has (s .runs .first) 0x10000)) 21 (base + s .boxes .run)
+    then ruleOf (s .runs .tiled)
+    then must (eqb (s .runs .bytes) payload) 22 (base + len)
+
+-- 19 to 22 of it
+unfoldable pub timed : ℕ → ℕ → ℕ → ℕ → ℕ → Shaped → Rule
+timed base len payload k prev s =
+    must (eqb k 0 || eqb (s .start) prev) 19 (base + s .boxes .tfdt) then spanned base len payload s
 
 -- the rule holds, with the fragment's start and end; or it breaks
 abbrev pub saysFragment : Fragment → Rule → List ℕ → Defaults → Type 0

@@ -2,14 +2,14 @@
 use Prim.Native.Nat.{ℕ, _+_, _-_, _*_, _≤_}
 use mathlib.Core.Path.{_≡_}
 use mathlib.Core.List.{List, [], _∷_}
-use mathlib.Core.Bool.{Bool, true, not, _&&_}
+use mathlib.Core.Bool.{Bool, true, false, not, _&&_}
 use lib.ListN.{length}
 use lib.Dec.{eqb, leb, ltb}
 use Rattle.numbers.specs.Numbers.{byte, be4, has}
 use Rattle.rules.specs.Kinds.{mfhd}
 use Rattle.rules.specs.Limits.{sampleLimit, tickLimit}
 use Rattle.rules.specs.Rules.{_then_, must}
-use Rattle.rules.specs.Boxes.{child}
+use Rattle.rules.specs.Boxes.{boxes, placesOf, child}
 use Rattle.rules.specs.Header.{versioned}
 use Rattle.rules.specs.Fragment.{trafIn, tfhdIn, tfdtIn, firstRun, runsIn, tfhdSize, runHead, stride, samplesOf, durationsOf, bytesIn, firstFlags, rule14, rule15runs, rule16runs, rule22runs}
 use Rattle.rules.specs.declared.Rule.{Rule}
@@ -26,12 +26,27 @@ use Rattle.fragment.specs.declared.usual.Usual.the-variants.{At, Other}
 use Rattle.fragment.specs.declared.usual.Quick.{Quick}
 use Rattle.fragment.specs.declared.usual.Quick.the-variants.{Known, Other as quickOther}
 
--- a short header at a place says this size and this type
-unfoldable pub headed : List ℕ → ℕ → ℕ → ℕ → Bool
-headed m at z k = eqb (be4 m at) z && eqb (be4 m (at + 4)) k
+-- a box of type k and size z at a place, with a short header and at least 16 bytes before an end
+pub record BoxAt (m : List ℕ) (at end z k : ℕ) : Type 0 where
+  pub size : be4 m at ≡ z
+  pub kind : be4 m (at + 4) ≡ k
+  pub low : 16 ≤ z
+  pub fits : at + z ≤ end
 
--- the usual layout, with the `tfdt` at t and the run at r: rule 14 holds, where the boxes stand, and that each ends where the next begins
-pub record UsualAt (m : List ℕ) (t r : ℕ) : Type 0 where
+-- from a place on there is no box of three types
+pub record NoneOf (s : List ℕ) (at v w x : ℕ) : Type 0 where
+  pub first : placesOf v (boxes s at) ≡ []
+  pub second : placesOf w (boxes s at) ≡ []
+  pub third : placesOf x (boxes s at) ≡ []
+
+-- there is none; where one was met nothing is said
+abbrev pub saysNone : Bool → List ℕ → ℕ → ℕ → ℕ → ℕ → Type 0
+saysNone true s at v w x = NoneOf s at v w x
+saysNone false s at v w x = Unit {0}
+
+-- the usual layout, with the `tfdt` at t and the run of size c at r: rule 14 holds, where the boxes stand, and that each ends where the
+-- next begins
+pub record UsualAt (m : List ℕ) (t r c : ℕ) : Type 0 where
   pub counts : (base : ℕ) → rule14 base m ≡ Holds
   pub mfhd : child m 0 mfhd ≡ 8
   pub traf : trafIn m ≡ 24
@@ -42,15 +57,16 @@ pub record UsualAt (m : List ℕ) (t r : ℕ) : Type 0 where
   pub mfhdSize : be4 m 8 ≡ 16
   pub tfhdSize : 32 + be4 m 32 ≡ t
   pub tfdtSize : t + be4 m t ≡ r
-  pub runSize : r + be4 m r ≡ length m
+  pub runSize : be4 m r ≡ c
   pub low : 48 ≤ t
   pub middle : t + 16 ≤ r
-  pub high : r + 16 ≤ length m
+  pub runLow : 16 ≤ c
+  pub high : r + c ≤ length m
   pub small : length m ≤ 4294967295
 
 -- the layout is the usual one; of another nothing is said
 abbrev pub saysUsual : Usual → List ℕ → Type 0
-saysUsual (At t r) m = UsualAt m t r
+saysUsual (At t r c) m = UsualAt m t r c
 saysUsual Other m = Unit {0}
 
 -- 15 to 17 of `mfhd` and of `tfhd`, whose version and flags are f, before a `tfdt` at t
@@ -67,18 +83,19 @@ abbrev pub saysBegin : Start → List ℕ → ℕ → Type 0
 saysBegin (startAt t) m at = (versioned m at 16 20 ≡ true) × (t ≡ timeAt m at)
 saysBegin Wrong m at = Unit {0}
 
--- a run with a short header that ends with the `moof`
-pub record LastRun (m : List ℕ) (r : ℕ) : Type 0 where
-  pub size : r + be4 m r ≡ length m
-  pub high : r + 16 ≤ length m
+-- a run of size c with a short header, inside the `moof`
+pub record RunAt (m : List ℕ) (r c : ℕ) : Type 0 where
+  pub size : be4 m r ≡ c
+  pub low : 16 ≤ c
+  pub high : r + c ≤ length m
 
--- 15, 16 and 18 of the last run, with these flags and so many samples
-unfoldable pub runFits : List ℕ → ℕ → ℕ → ℕ → Bool
-runFits m r f n =
+-- 15, 16 and 18 of the only run, with this size, these flags and so many samples
+unfoldable pub runFits : List ℕ → ℕ → ℕ → ℕ → ℕ → Bool
+runFits m r c f n =
     leb (byte m (r + 8)) 1
     && leb 1 n
     && leb n sampleLimit
-    && eqb (length m - r) (8 + runHead f + stride f * n)
+    && eqb c (8 + runHead f + stride f * n)
     && not (has f 0x4 && has f 0x400)
 
 -- 15, 16 and 18 of a fragment's only run

@@ -7,8 +7,9 @@ ghost use Rattle.fragment.specs.Bodies.{timeAt, saysMfhd, saysTfhd, says
 use crate::counts::Moof;
 use crate::layout;
 use crate::runs;
+use crate::runs::Runs;
 use crate::runs::Survey;
-use crate::told::Told;
+use rules::Defaults;
 
 // What an `mfhd` says: nothing that a rule asks for, or that it is sized otherwise.
 pub enum Mfhd {
@@ -16,9 +17,9 @@ pub enum Mfhd {
     Wrong,
 }
 
-// What a `tfhd` says: its flags and its track ID, or that it is sized otherwise.
+// What a `tfhd` says: its flags, its track ID and the defaults with its own, or that it is sized otherwise.
 pub enum Tfhd {
-    Of { flags: u32, id: u32 },
+    Of { flags: u32, id: u32, own: Defaults },
     Wrong,
 }
 
@@ -33,8 +34,7 @@ pub struct Body {
     pub flags: u32,
     pub id: u32,
     pub start: u64,
-    pub clash: Told,
-    pub samples: u64,
+    pub runs: Runs,
 }
 
 // The bodies are sized, or the place of rule 15's refusal.
@@ -54,18 +54,24 @@ fn read_mfhd(m: &[u8], at: usize) -> Mfhd
     }
 }
 
-// The `tfhd` at a place: version 0, sized by its flags.
-fn read_tfhd(m: &[u8], at: usize) -> Tfhd
-    ensures { λ r. ⌜ saysTfhd r (now (m .entry)) at ⌝ }
+// The `tfhd` at a place: version 0, sized by its flags; with the `trex` defaults.
+fn read_tfhd(m: &[u8], at: usize, d: Defaults) -> Tfhd
+    requires { ⌜ at ≤ 17179869184 ⌝ }
+    ensures { λ r. ⌜ saysTfhd r (now (m .entry)) at d ⌝ }
 {
-    let flags = fields::flags_of(m, at);
-    if fields::plain(m, at, layout::tfhd_size(flags)) {
-        Tfhd::Of {
-            flags,
-            id: fields::field(m, at, 4),
-        }
-    } else {
-        Tfhd::Wrong
+    let f = fields::full_at(m, at);
+    let flags = f.flags;
+    let behind = at + f.head;
+    if f.version != 0 {
+        return Tfhd::Wrong;
+    }
+    if f.size != layout::tfhd_size(flags) {
+        return Tfhd::Wrong;
+    }
+    Tfhd::Of {
+        flags,
+        id: numbers::be4(m, behind + 4),
+        own: layout::defaults_behind(m, behind, flags, d),
     }
 }
 
@@ -92,18 +98,18 @@ fn read_tfdt(m: &[u8], at: usize) -> Start
     }
 }
 
-// Rule 15: `mfhd`, `tfhd`, `tfdt`, then the runs.
-pub fn read_bodies(m: &[u8], base: u64, x: Moof) -> Bodies
-    requires { ⌜ (length (now m) ≤ 4294967296) × (base ≤ 4294967296) ⌝ }
+// Rule 15: `mfhd`, `tfhd`, `tfdt`, then the runs, by the `trex` defaults and the header length of the `mdat`.
+pub fn read_bodies(m: &[u8], base: u64, x: Moof, d: Defaults, head: u64) -> Bodies
+    requires { ⌜ (length (now m) ≤ 4294967296) × (base ≤ 4294967296) × (head ≤ 16) ⌝ }
     requires { ⌜ Stand (now m) x ⌝ }
-    ensures { λ r. ⌜ saysBodies r base (now (m .entry)) ⌝ }
+    ensures { λ r. ⌜ saysBodies r base (now (m .entry)) d head ⌝ }
 {
     let mfhd = read_mfhd(m, x.mfhd);
     let Mfhd::Plain = mfhd else {
         return Bodies::Refused(base + x.mfhd as u64);
     };
-    let tfhd = read_tfhd(m, x.tfhd);
-    let Tfhd::Of { flags, id } = tfhd else {
+    let tfhd = read_tfhd(m, x.tfhd, d);
+    let Tfhd::Of { flags, id, own } = tfhd else {
         return Bodies::Refused(base + x.tfhd as u64);
     };
     let tfdt = read_tfdt(m, x.tfdt);
@@ -112,15 +118,15 @@ pub fn read_bodies(m: &[u8], base: u64, x: Moof) -> Bodies
     };
     let b = fields::body(m, x.traf);
     let shift = x.traf + fields::head_of(m, x.traf);
-    let all = runs::survey_runs(m, b, shift, x.run - shift, base);
+    let data = m.len() as u64;
+    let all = runs::survey_runs(m, b, shift, x.run - shift, base, own, data + head);
     match all {
         Survey::Missized(p) => Bodies::Refused(p),
-        Survey::Runs { clash, samples } => Bodies::Known(Body {
+        Survey::All(runs) => Bodies::Known(Body {
             flags,
             id,
             start,
-            clash,
-            samples,
+            runs,
         }),
     }
 }

@@ -3,7 +3,7 @@ ghost use mathlib.Core.Path.{_≡_};
 ghost use Prim.Native.Nat.{_+_, _<_, _≤_};
 ghost use lib.ListN.{length};
 ghost use Rattle.rules.specs.Header.{oneOf, someOf};
-ghost use Rattle.rules.specs.Boxes.{boxes, again, seen, firstOf};
+ghost use Rattle.rules.specs.Boxes.{boxes, seen, firstOf};
 ghost use Rattle.boxes.specs.Siblings.{secondOf};
 ghost use Rattle.fragment.specs.Counts.{saysCount, saysPlace, saysInMoof, saysInTraf, saysFound, Inside, SawThree};
 use boxes::Next;
@@ -59,17 +59,6 @@ pub struct Trio {
     pub c: Seen,
 }
 
-// What is seen after one box more at a place.
-fn again(seen: Seen, at: usize) -> Seen
-    ensures { λ r. ⌜ r ≡ again at seen ⌝ }
-{
-    match seen {
-        Seen::Never => Seen::Once(at),
-        Seen::Once(a) => Seen::Twice(a, at),
-        Seen::Twice(a, b) => Seen::Twice(a, b),
-    }
-}
-
 // What is seen of three wanted types among the sibling boxes of a slice.
 fn tally(s: &[u8], v: u32, w: u32, x: u32) -> Trio
     ensures { λ r. ⌜ SawThree (now (s .entry)) v w x r ⌝ }
@@ -84,13 +73,13 @@ fn tally(s: &[u8], v: u32, w: u32, x: u32) -> Trio
             return Trio { a, b, c };
         };
         if boxes::named(v, kind) {
-            a = again(a, at);
+            a = boxes::again(a, at);
         }
         if boxes::named(w, kind) {
-            b = again(b, at);
+            b = boxes::again(b, at);
         }
         if boxes::named(x, kind) {
-            c = again(c, at);
+            c = boxes::again(c, at);
         }
         at += size;
     }

@@ -3,7 +3,7 @@ ghost use mathlib.Core.Path.{_≡_};
 ghost use Prim.Native.Nat.{_+_, _<_, _≤_};
 ghost use Rattle.numbers.specs.Numbers.{be4, when};
 ghost use Rattle.rules.specs.Fragment.{bytesFor, tfhdSize, runHead, stride};
-ghost use Rattle.fragment.specs.Layout.{defaultsFrom, defaultsBehind, defaultsAt};
+ghost use Rattle.fragment.specs.Layout.{defaultsFrom, defaultsBehind};
 use rules::Defaults;
 
 // n bytes where a flag is set.
@@ -68,13 +68,4 @@ pub fn defaults_behind(m: &[u8], p: usize, flags: u32, d: Defaults) -> Defaults
         size: own(m, p + size, numbers::has(flags, 0x10), d.size),
         flags: own(m, p + sync, numbers::has(flags, 0x20), d.flags),
     }
-}
-
-// The defaults of the `tfhd` at a place, else those of `trex`.
-pub fn defaults_at(m: &[u8], at: usize, d: Defaults) -> Defaults
-    requires { ⌜ at ≤ 17179869184 ⌝ }
-    ensures { λ r. ⌜ r ≡ defaultsAt (now (m .entry)) at d ⌝ }
-{
-    let f = fields::full_at(m, at);
-    defaults_behind(m, at + f.head, f.flags, d)
 }

@@ -44,13 +44,10 @@ pub fn check(m: &[u8], base: u64, head: u64, payload: u64, h: Header, k: u64, pr
     if let Quick::Known(f) = quick {
         return f;
     }
-    let answer = shape::shape_of(m, base, h.id);
+    let answer = shape::shape_of(m, base, h.id, h.defaults, head);
     match answer {
         Shape::Refused { number, place } => Fragment::Refused { number, place },
-        Shape::Good(s) => {
-            let d = h.defaults;
-            timing::time(m, base, head, payload, d, k, prev, s)
-        }
+        Shape::Good(s) => timing::time(m, base, payload, k, prev, s),
     }
 }
 
@@ -60,7 +57,7 @@ pub fn start_of(m: &[u8]) -> u64
 {
     let layout = usual::usual_of(m);
     match layout {
-        Usual::At { tfdt, run: _ } => bodies::time_at(m, tfdt),
+        Usual::At { tfdt, .. } => bodies::time_at(m, tfdt),
         Usual::Other => {
             let traf = counts::child_of(m, 0, TRAF);
             let tfdt = counts::child_of(m, traf, TFDT);

@@ -1,12 +1,12 @@
 // The runs of a fragment, one after the other: rules 15 and 16, the samples in all, the first sample, and the tiling of rule 22.
 ghost use mathlib.Core.Path.{_≡_};
-ghost use mathlib.Core.Bool.{true, not, _&&_};
-ghost use Prim.Native.Nat.{_+_, _≤_};
+ghost use mathlib.Core.Bool.{not, _&&_};
+ghost use Prim.Native.Nat.{_≤_};
 ghost use lib.ListN.{length};
-ghost use Rattle.numbers.specs.Numbers.{has};
-ghost use Rattle.rules.specs.Fragment.{samplesOf, firstFlagsOf, firstFlags, placed};
+ghost use lib.Dec.{eqb};
+ghost use Rattle.numbers.specs.Numbers.{has, when};
 ghost use Rattle.fragment.specs.Layout.{firstFlagsBehind, placedBehind};
-ghost use Rattle.fragment.specs.Runs.{runsAt, saysTrun, saysSurvey, Tiles};
+ghost use Rattle.fragment.specs.Runs.{runsAt, saysTrun, saysSurvey};
 use crate::layout;
 use crate::samples;
 use crate::told;
@@ -15,23 +15,31 @@ use boxes::Next;
 use boxes::kinds::TRUN;
 use rules::Defaults;
 
-// What a `trun` says: its flags and its samples, or that it is sized otherwise.
+// What a `trun` says: its flags, its samples and where its header ends, or that it is sized otherwise.
 pub enum Trun {
-    Run { flags: u32, count: u32 },
+    Run {
+        flags: u32,
+        count: u32,
+        behind: usize,
+    },
     Wrong,
 }
 
-// What all runs say: rule 16 and their samples in all, or the place of the first that is sized otherwise.
-pub enum Survey {
-    Runs { clash: Told, samples: u64 },
-    Missized(u64),
-}
-
-// The durations and sizes of all runs, and what rule 22 says of their offsets.
-pub struct Tiling {
+// What all runs say: rule 16 and their samples in all; where these are few, also their durations and sizes, the first sample's flags,
+// and rule 22 of their offsets.
+pub struct Runs {
+    pub clash: Told,
+    pub samples: u64,
     pub ticks: u64,
     pub bytes: u64,
+    pub first: u32,
     pub tiled: Told,
+}
+
+// What all runs say, or the place of the first that is sized otherwise.
+pub enum Survey {
+    All(Runs),
+    Missized(u64),
 }
 
 // The `trun` at a place: version 0 or 1, sized by its flags and its samples.
@@ -44,10 +52,15 @@ fn read_trun(m: &[u8], r: usize) -> Trun
         return Trun::Wrong;
     }
     let flags = f.flags;
-    let count = numbers::be4(m, r + f.head + 4);
+    let behind = r + f.head;
+    let count = numbers::be4(m, behind + 4);
     let own = layout::stride(flags) as u64 * count as u64;
     if f.size == 8 + layout::run_head(flags) as u64 + own {
-        Trun::Run { flags, count }
+        Trun::Run {
+            flags,
+            count,
+            behind,
+        }
     } else {
         Trun::Wrong
     }
@@ -62,31 +75,6 @@ pub fn apart(flags: u32) -> bool
         return !each;
     }
     true
-}
-
-// The runs in the body of `traf`, which is shifted in the `moof`, from a start on.
-pub fn survey_runs(m: &[u8], b: &[u8], shift: usize, start: usize, base: u64) -> Survey
-    requires { ⌜ (length (now b) ≤ 4294967296) × (start ≤ length (now b)) × (shift ≤ 8589934592) × (base ≤ 4294967296) ⌝ }
-    ensures { λ r. ⌜ saysSurvey r base (now (m .entry)) (runsAt (now (b .entry)) shift start) ⌝ }
-{
-    let mut at = start;
-    let mut clash = Told::Holds;
-    let mut samples: u64 = 0;
-    loop {
-        let n = boxes::next_of(b, at, TRUN);
-        let Next::At { place, next } = n else {
-            return Survey::Runs { clash, samples };
-        };
-        let r = shift + place;
-        let stands = base + r as u64;
-        let run = read_trun(m, r);
-        let Trun::Run { flags, count } = run else {
-            return Survey::Missized(stands);
-        };
-        clash = told::also(clash, apart(flags), 16, stands);
-        samples += count as u64;
-        at = next;
-    }
 }
 
 // The flags of the first sample of a run with these flags whose header ends at a place.
@@ -106,33 +94,27 @@ pub fn first_flags_behind(m: &[u8], p: usize, flags: u32, d: Defaults) -> u32
     d.flags
 }
 
-// The flags of the first sample of the run at a place.
-fn first_flags_of(m: &[u8], r: usize, d: Defaults) -> u32
-    requires { ⌜ r ≤ 17179869184 ⌝ }
-    ensures { λ a. ⌜ a ≡ firstFlagsOf (now (m .entry)) d r ⌝ }
+// The flags of the first sample after a run with so many samples whose header ends at a place: the run's, where there are none before
+// and some in it, else those before.
+fn first_after(
+    before: u64,
+    first: u32,
+    count: u32,
+    m: &[u8],
+    p: usize,
+    flags: u32,
+    d: Defaults,
+) -> u32
+    requires { ⌜ p ≤ 34359738368 ⌝ }
+    ensures { λ a. ⌜ a ≡ when (eqb before 0) (when (eqb count 0) first (firstFlagsBehind (now (m .entry)) p flags d)) first ⌝ }
 {
-    let f = fields::full_at(m, r);
-    first_flags_behind(m, r + f.head, f.flags, d)
-}
-
-// The flags of the first sample of the runs from a start on: that of the first run that has one.
-pub fn first_flags(m: &[u8], b: &[u8], shift: usize, start: usize, d: Defaults) -> u32
-    requires { ⌜ (length (now b) ≤ 4294967296) × (start ≤ length (now b)) × (shift ≤ 8589934592) ⌝ }
-    ensures { λ r. ⌜ r ≡ firstFlags (now (m .entry)) d (runsAt (now (b .entry)) shift start) ⌝ }
-{
-    let mut at = start;
-    loop {
-        let n = boxes::next_of(b, at, TRUN);
-        let Next::At { place, next } = n else {
-            return 0;
-        };
-        let r = shift + place;
-        let count = fields::field(m, r, 4);
-        if count != 0 {
-            return first_flags_of(m, r, d);
-        }
-        at = next;
+    if before != 0 {
+        return first;
     }
+    if count == 0 {
+        return first;
+    }
+    first_flags_behind(m, p, flags, d)
 }
 
 // Whether the data offset, signed, of a run with these flags whose header ends at a place is the place e; the first run carries one,
@@ -148,17 +130,9 @@ pub fn placed_behind(first: bool, m: &[u8], p: usize, flags: u32, e: u64) -> boo
     !first
 }
 
-// Whether the data offset of the run at a place is the place e.
-fn placed(first: bool, m: &[u8], r: usize, e: u64) -> bool
-    requires { ⌜ r ≤ 17179869184 ⌝ }
-    ensures { λ a. ⌜ a ≡ placed first (now (m .entry)) r e ⌝ }
-{
-    let f = fields::full_at(m, r);
-    placed_behind(first, m, r + f.head, f.flags, e)
-}
-
-// The durations, sizes and offsets of the runs from a start on, where the first byte is at a place after the `moof` start.
-pub fn tile_runs(
+// The runs in the body of `traf`, which is shifted in the `moof`, from a start on, where the first sample's byte is at a place after the
+// `moof` start.
+pub fn survey_runs(
     m: &[u8],
     b: &[u8],
     shift: usize,
@@ -166,32 +140,53 @@ pub fn tile_runs(
     base: u64,
     d: Defaults,
     from: u64,
-) -> Tiling
+) -> Survey
     requires { ⌜ (length (now b) ≤ 4294967296) × (start ≤ length (now b)) × (shift ≤ 8589934592) × (base ≤ 4294967296) × (from ≤ 8589934592) ⌝ }
-    requires { ⌜ samplesOf (now m) (runsAt (now b) shift start) ≤ 65536 ⌝ }
-    ensures { λ r. ⌜ Tiles base (now (m .entry)) d from (runsAt (now (b .entry)) shift start) r ⌝ }
+    ensures { λ r. ⌜ saysSurvey r base (now (m .entry)) d from (runsAt (now (b .entry)) shift start) ⌝ }
 {
     let mut at = start;
-    let mut first = true;
+    let mut lead = true;
+    let mut clash = Told::Holds;
+    let mut samples: u64 = 0;
     let mut ticks: u64 = 0;
     let mut bytes: u64 = 0;
+    let mut first: u32 = 0;
     let mut tiled = Told::Holds;
     loop {
         let n = boxes::next_of(b, at, TRUN);
         let Next::At { place, next } = n else {
-            return Tiling {
+            return Survey::All(Runs {
+                clash,
+                samples,
                 ticks,
                 bytes,
+                first,
                 tiled,
-            };
+            });
         };
         let r = shift + place;
-        let own = placed(first, m, r, from + bytes);
-        tiled = told::also(tiled, own, 22, base + r as u64);
-        let sums = samples::run_sums(m, r, d);
-        ticks += sums.ticks;
-        bytes += sums.bytes;
-        first = false;
+        let stands = base + r as u64;
+        let run = read_trun(m, r);
+        let Trun::Run {
+            flags,
+            count,
+            behind,
+        } = run
+        else {
+            return Survey::Missized(stands);
+        };
+        clash = told::also(clash, apart(flags), 16, stands);
+        first = first_after(samples, first, count, m, behind, flags, d);
+        samples += count as u64;
+        if samples <= 65536 {
+            let own = placed_behind(lead, m, behind, flags, from + bytes);
+            tiled = told::also(tiled, own, 22, stands);
+            let fields = behind + layout::run_head(flags);
+            let sums = samples::sums_of(m, fields, layout::stride(flags), count as usize, flags, d);
+            ticks += sums.ticks;
+            bytes += sums.bytes;
+        }
+        lead = false;
         at = next;
     }
 }

@@ -3,9 +3,8 @@ ghost use mathlib.Core.Path.{_≡_};
 ghost use Prim.Native.Nat.{_+_, _*_, _≤_};
 ghost use lib.ListN.{length};
 ghost use Rattle.numbers.specs.Numbers.{be4};
-ghost use Rattle.rules.specs.Fragment.{stride, countOf, durationOf, bytesOf};
+ghost use Rattle.rules.specs.Fragment.{stride};
 ghost use Rattle.fragment.specs.Samples.{every, ownTicks, ownBytes, Spaced, Summed};
-use crate::layout;
 use rules::Defaults;
 
 // Durations and sizes in all.
@@ -146,24 +145,4 @@ pub fn sums_of(m: &[u8], from: usize, step: usize, n: usize, flags: u32, d: Defa
         ticks: times(n, d.duration),
         bytes: times(n, d.size),
     }
-}
-
-// The durations and the sizes of the run at a place.
-pub fn run_sums(m: &[u8], at: usize, d: Defaults) -> Sums
-    requires { ⌜ (at ≤ 17179869184) × (countOf (now m) at ≤ 65536) ⌝ }
-    ensures { λ r. ⌜ Summed (durationOf (now (m .entry)) d at) (countOf (now (m .entry)) at) (r .ticks) ⌝ }
-    ensures { λ r. ⌜ Summed (bytesOf (now (m .entry)) d at) (countOf (now (m .entry)) at) (r .bytes) ⌝ }
-{
-    let f = fields::full_at(m, at);
-    let flags = f.flags;
-    let behind = at + f.head;
-    let n = numbers::be4(m, behind + 4) as usize;
-    sums_of(
-        m,
-        behind + layout::run_head(flags),
-        layout::stride(flags),
-        n,
-        flags,
-        d,
-    )
 }

@@ -16,13 +16,16 @@ use crate::bodies::Body;
 use crate::counts;
 use crate::counts::Found;
 use crate::counts::Moof;
+use crate::runs::Runs;
 use crate::told;
 use crate::told::Told;
+use rules::Defaults;
 
-// A fragment of good shape: where its boxes stand, and its start.
+// A fragment of good shape: where its boxes stand, its start, and what its runs say.
 pub struct Shaped {
     pub boxes: Moof,
     pub start: u64,
+    pub runs: Runs,
 }
 
 // The shape is good, or rule 14, 15, 16, 17 or 18 breaks.
@@ -60,43 +63,54 @@ fn settle(base: u64, id: u32, tfhd: usize, traf: usize, k: Body) -> Told
     ensures { λ r. ⌜ ruleOf r ≡ settled base id tfhd traf k ⌝ }
 {
     let place = base + tfhd as u64;
-    let clash = k.clash;
-    let flags = told::first_of(told::must(flagged(k.flags), 16, place), clash);
-    let same = told::must(k.id == id, 17, place);
-    let count = told::must(few(k.samples), 18, base + traf as u64);
-    told::first_of(flags, told::first_of(same, count))
+    if !flagged(k.flags) {
+        return Told::Breaks { number: 16, place };
+    }
+    let runs = k.runs;
+    let clash = runs.clash;
+    let Told::Holds = clash else {
+        return clash;
+    };
+    if k.id != id {
+        return Told::Breaks { number: 17, place };
+    }
+    told::must(few(runs.samples), 18, base + traf as u64)
 }
 
 // Rules 15 to 18 of a fragment whose boxes stand at these places.
-fn judge(m: &[u8], base: u64, id: u32, x: Moof) -> Shape
-    requires { ⌜ (length (now m) ≤ 4294967296) × (base ≤ 4294967296) ⌝ }
+fn judge(m: &[u8], base: u64, id: u32, x: Moof, d: Defaults, head: u64) -> Shape
+    requires { ⌜ (length (now m) ≤ 4294967296) × (base ≤ 4294967296) × (head ≤ 16) ⌝ }
     requires { ⌜ Stand (now m) x ⌝ }
-    ensures { λ r. ⌜ saysShape r (rules15to18 base (now (m .entry)) id) (now (m .entry)) ⌝ }
+    ensures { λ r. ⌜ saysShape r (rules15to18 base (now (m .entry)) id) base (now (m .entry)) d head ⌝ }
 {
-    let read = bodies::read_bodies(m, base, x);
+    let read = bodies::read_bodies(m, base, x, d, head);
     match read {
         Bodies::Refused(place) => Shape::Refused { number: 15, place },
         Bodies::Known(k) => {
             let told = settle(base, id, x.tfhd, x.traf, k);
             match told {
                 Told::Breaks { number, place } => Shape::Refused { number, place },
-                Told::Holds => Shape::Good(Shaped {
-                    boxes: x,
-                    start: k.start,
-                }),
+                Told::Holds => {
+                    let runs = k.runs;
+                    Shape::Good(Shaped {
+                        boxes: x,
+                        start: k.start,
+                        runs,
+                    })
+                }
             }
         }
     }
 }
 
-// Rules 14 to 18.
-pub fn shape_of(m: &[u8], base: u64, id: u32) -> Shape
-    requires { ⌜ (length (now m) ≤ 4294967296) × (base ≤ 4294967296) ⌝ }
-    ensures { λ r. ⌜ saysShape r (shape base (now (m .entry)) id) (now (m .entry)) ⌝ }
+// Rules 14 to 18, with what the runs say by the `trex` defaults and the header length of the `mdat`.
+pub fn shape_of(m: &[u8], base: u64, id: u32, d: Defaults, head: u64) -> Shape
+    requires { ⌜ (length (now m) ≤ 4294967296) × (base ≤ 4294967296) × (head ≤ 16) ⌝ }
+    ensures { λ r. ⌜ saysShape r (shape base (now (m .entry)) id) base (now (m .entry)) d head ⌝ }
 {
     let found = counts::find_boxes(m, base);
     match found {
         Found::Refused(place) => Shape::Refused { number: 14, place },
-        Found::All(x) => judge(m, base, id, x),
+        Found::All(x) => judge(m, base, id, x, d, head),
     }
 }

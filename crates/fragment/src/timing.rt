@@ -5,17 +5,14 @@ ghost use Prim.Native.Nat.{_≤_};
 ghost use lib.ListN.{length};
 ghost use lib.Dec.{eqb};
 ghost use Rattle.numbers.specs.Numbers.{has};
-ghost use Rattle.rules.specs.Fragment.{timing};
-ghost use Rattle.fragment.specs.Shape.{Good14to18};
-ghost use Rattle.fragment.specs.Timing.{rules20to22, saysEnd, saysFragment};
+ghost use Rattle.fragment.specs.Counts.{Stand};
+ghost use Rattle.fragment.specs.Timing.{saysEnd, spanned, timed};
+ghost use Rattle.fragment.specs.Usual.{saysSpan};
 use crate::Facts;
 use crate::Fragment;
-use crate::layout;
-use crate::runs;
 use crate::shape::Shaped;
 use crate::told;
 use crate::told::Told;
-use rules::Defaults;
 
 // The fragment's end, or that its duration is 0 or its end over 2^63 - 1.
 pub enum End {
@@ -55,50 +52,37 @@ pub fn is_sync(flags: u32) -> bool
     !other
 }
 
-// Rules 20 to 22 of a fragment of good shape.
-fn span(m: &[u8], base: u64, head: u64, payload: u64, d: Defaults, s: Shaped) -> Fragment
-    requires { ⌜ (length (now m) ≤ 4294967296) × (base ≤ 4294967296) × (head ≤ 16) ⌝ }
-    requires { ⌜ Good14to18 (now m) s ⌝ }
-    ensures { λ r. ⌜ saysFragment r (rules20to22 base (now (m .entry)) d head payload) (now (m .entry)) d ⌝ }
+// Rules 20 to 22 of a fragment of good shape, by what its runs say.
+fn span(m: &[u8], base: u64, payload: u64, s: Shaped) -> Fragment
+    requires { ⌜ (length (now m) ≤ 4294967296) × (base ≤ 4294967296) × (s .runs .ticks ≤ 281474976645120) ⌝ }
+    requires { ⌜ Stand (now m) (s .boxes) ⌝ }
+    ensures { λ r. ⌜ saysSpan r (spanned base (length (now (m .entry))) payload s) (s .start) (s .runs .ticks) ⌝ }
 {
     let x = s.boxes;
     let start = s.start;
-    let own = layout::defaults_at(m, x.tfhd, d);
-    let b = fields::body(m, x.traf);
-    let shift = x.traf + fields::head_of(m, x.traf);
-    let first = x.run - shift;
-    let data = m.len() as u64;
-    let all = runs::tile_runs(m, b, shift, first, base, own, data + head);
+    let runs = s.runs;
     let place = base + x.run as u64;
-    let last = end_at(start, all.ticks);
+    let last = end_at(start, runs.ticks);
     let End::At(end) = last else {
         return Fragment::Refused { number: 20, place };
     };
-    if !is_sync(runs::first_flags(m, b, shift, first, own)) {
+    if !is_sync(runs.first) {
         return Fragment::Refused { number: 21, place };
     }
-    let offsets = all.tiled;
-    let tiled = told::first_of(offsets, told::must(all.bytes == payload, 22, base + data));
+    let offsets = runs.tiled;
+    let data = m.len() as u64;
+    let tiled = told::also(offsets, runs.bytes == payload, 22, base + data);
     match tiled {
         Told::Breaks { number, place } => Fragment::Refused { number, place },
         Told::Holds => Fragment::Good(Facts { start, end }),
     }
 }
 
-// Rules 19 to 22 of a fragment of good shape.
-pub fn time(
-    m: &[u8],
-    base: u64,
-    head: u64,
-    payload: u64,
-    d: Defaults,
-    k: u64,
-    prev: u64,
-    s: Shaped,
-) -> Fragment
-    requires { ⌜ (length (now m) ≤ 4294967296) × (base ≤ 4294967296) × (head ≤ 16) ⌝ }
-    requires { ⌜ Good14to18 (now m) s ⌝ }
-    ensures { λ r. ⌜ saysFragment r (timing base (now (m .entry)) d head payload k prev) (now (m .entry)) d ⌝ }
+// Rules 19 to 22 of a fragment of good shape, by what its runs say.
+pub fn time(m: &[u8], base: u64, payload: u64, k: u64, prev: u64, s: Shaped) -> Fragment
+    requires { ⌜ (length (now m) ≤ 4294967296) × (base ≤ 4294967296) × (s .runs .ticks ≤ 281474976645120) ⌝ }
+    requires { ⌜ Stand (now m) (s .boxes) ⌝ }
+    ensures { λ r. ⌜ saysSpan r (timed base (length (now (m .entry))) payload k prev s) (s .start) (s .runs .ticks) ⌝ }
 {
     let x = s.boxes;
     if !follows(k, s.start, prev) {
@@ -107,5 +91,5 @@ pub fn time(
             place: base + x.tfdt as u64,
         };
     }
-    span(m, base, head, payload, d, s)
+    span(m, base, payload, s)
 }

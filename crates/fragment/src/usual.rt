@@ -1,12 +1,13 @@
-// The usual layout of a fragment, read without a walk: `moof` holds `mfhd` and `traf`, and `traf` holds `tfhd`, `tfdt` and one
-// `trun`, in this order, with short headers and nothing else.
+// The usual layout of a fragment, read with no walk over the boxes that the rules name: `moof` begins with `mfhd` and `traf`, and
+// `traf` with `tfhd`, `tfdt` and one `trun`, in this order and with short headers. Behind them stand only boxes of other types.
 ghost use mathlib.Core.Path.{_≡_};
-ghost use Prim.Native.Nat.{_+_, _≤_};
+ghost use Prim.Native.Nat.{_+_, _-_, _≤_};
 ghost use lib.ListN.{length};
 ghost use Rattle.numbers.specs.Numbers.{be4};
 ghost use Rattle.rules.specs.Rules.{_then_};
 ghost use Rattle.rules.specs.Fragment.{shape, timing};
-ghost use Rattle.fragment.specs.Usual.{headed, headsFit, runFits, LastRun, closing, saysUsual, saysBegin, saysSpan, saysRest, saysQuick};
+ghost use Rattle.rules.specs.Boxes.{part};
+ghost use Rattle.fragment.specs.Usual.{BoxAt, RunAt, headsFit, runFits, closing, saysNone, saysUsual, saysBegin, saysSpan, saysRest, saysQuick};
 use crate::Facts;
 use crate::Fragment;
 use crate::bodies::Start;
@@ -24,10 +25,15 @@ use boxes::kinds::TRAF;
 use boxes::kinds::TRUN;
 use rules::Defaults;
 use rules::Header;
+use rules::Look;
 
-// Where the `tfdt` and the run stand in the usual layout, or that the layout is another.
+// Where the `tfdt` and the run stand in the usual layout and the run's size, or that the layout is another.
 pub enum Usual {
-    At { tfdt: usize, run: usize },
+    At {
+        tfdt: usize,
+        run: usize,
+        size: usize,
+    },
     Other,
 }
 
@@ -37,15 +43,60 @@ pub enum Quick {
     Other,
 }
 
-// Whether a short header at a place says this size and this type.
-fn headed(m: &[u8], at: usize, size: usize, kind: u32) -> bool
-    requires { ⌜ at + 8 ≤ length (now m) ⌝ }
-    ensures { λ r. ⌜ r ≡ headed (now (m .entry)) at size kind ⌝ }
+// The size of the box of a type at a place, with a short header and at least 16 bytes before an end; 0 where there is none.
+fn box_at(m: &[u8], at: usize, end: usize, kind: u32) -> usize
+    requires { ⌜ (at ≤ end) × (end ≤ length (now m)) ⌝ }
+    ensures { λ r. ⌜ ((r ≡ 0 → ⊥) → BoxAt (now (m .entry)) at end r kind) ⌝ }
+    ensures { λ r. ⌜ at + r ≤ end ⌝ }
 {
-    if numbers::near4(m, at) as usize != size {
-        return false;
+    if end - at < 16 {
+        return 0;
     }
-    numbers::near4(m, at + 4) == kind
+    let size = numbers::near4(m, at) as usize;
+    if size < 16 {
+        return 0;
+    }
+    if end - at < size {
+        return 0;
+    }
+    if numbers::near4(m, at + 4) != kind {
+        return 0;
+    }
+    size
+}
+
+// Whether no box of three types stands among the sibling boxes from a place on.
+fn none_of(b: &[u8], at: usize, v: u32, w: u32, x: u32) -> bool
+    ensures { λ r. ⌜ saysNone r (now (b .entry)) at v w x ⌝ }
+{
+    let mut here = at;
+    loop {
+        let l = boxes::look(b, here);
+        let Look::Header { size, kind, .. } = l else {
+            return true;
+        };
+        if kind == v {
+            return false;
+        }
+        if kind == w {
+            return false;
+        }
+        if kind == x {
+            return false;
+        }
+        here += size;
+    }
+}
+
+// The same from a place to the end of a container whose boxes start at another: mostly no byte is left there.
+fn none_behind(m: &[u8], from: usize, at: usize, end: usize, v: u32, w: u32, x: u32) -> bool
+    requires { ⌜ (from ≤ at) × (at ≤ end) × (end ≤ length (now m)) ⌝ }
+    ensures { λ r. ⌜ saysNone r (part (now (m .entry)) from (end - from)) (at - from) v w x ⌝ }
+{
+    if at == end {
+        return true;
+    }
+    none_of(&m[from..end], at - from, v, w, x)
 }
 
 // Whether the layout is the usual one, and where its boxes stand.
@@ -53,44 +104,41 @@ pub fn usual_of(m: &[u8]) -> Usual
     ensures { λ r. ⌜ saysUsual r (now (m .entry)) ⌝ }
 {
     let n = m.len();
-    if n < 80 {
+    if n < 24 {
         return Usual::Other;
     }
     if numbers::near4(m, 0) as usize != n {
         return Usual::Other;
     }
-    if !headed(m, 8, 16, MFHD) {
+    if box_at(m, 8, 24, MFHD) == 0 {
         return Usual::Other;
     }
-    if !headed(m, 24, n - 24, TRAF) {
+    let z = box_at(m, 24, n, TRAF);
+    if z == 0 {
         return Usual::Other;
     }
-    let a = numbers::near4(m, 32) as usize;
-    if a < 16 {
-        return Usual::Other;
-    }
-    if n - 64 < a {
-        return Usual::Other;
-    }
-    if !headed(m, 32, a, TFHD) {
+    let end = 24 + z;
+    let a = box_at(m, 32, end, TFHD);
+    if a == 0 {
         return Usual::Other;
     }
     let tfdt = 32 + a;
-    let b = numbers::near4(m, tfdt) as usize;
-    if b < 16 {
-        return Usual::Other;
-    }
-    if n - 16 - tfdt < b {
-        return Usual::Other;
-    }
-    if !headed(m, tfdt, b, TFDT) {
+    let b = box_at(m, tfdt, end, TFDT);
+    if b == 0 {
         return Usual::Other;
     }
     let run = tfdt + b;
-    if !headed(m, run, n - run, TRUN) {
+    let size = box_at(m, run, end, TRUN);
+    if size == 0 {
         return Usual::Other;
     }
-    Usual::At { tfdt, run }
+    if !none_behind(m, 32, run + size, end, TFHD, TFDT, TRUN) {
+        return Usual::Other;
+    }
+    if !none_behind(m, 8, end, n, MFHD, TRAF, TRAF) {
+        return Usual::Other;
+    }
+    Usual::At { tfdt, run, size }
 }
 
 // Rules 15 to 17 of `mfhd` and of `tfhd`, whose version and flags are given.
@@ -131,10 +179,10 @@ fn start_in(m: &[u8], at: usize, size: usize) -> Start
     Start::Wrong
 }
 
-// Rules 15, 16 and 18 of the last run, whose flags and samples are given.
-fn run_fits(m: &[u8], run: usize, flags: u32, count: usize) -> bool
+// Rules 15, 16 and 18 of the only run, whose size, flags and samples are given.
+fn run_fits(m: &[u8], run: usize, size: usize, flags: u32, count: usize) -> bool
     requires { ⌜ run + 16 ≤ length (now m) ⌝ }
-    ensures { λ r. ⌜ r ≡ runFits (now (m .entry)) run flags count ⌝ }
+    ensures { λ r. ⌜ r ≡ runFits (now (m .entry)) run size flags count ⌝ }
 {
     if 1 < m[run + 8] {
         return false;
@@ -145,7 +193,7 @@ fn run_fits(m: &[u8], run: usize, flags: u32, count: usize) -> bool
     if 65536 < count {
         return false;
     }
-    if m.len() - run != 8 + layout::run_head(flags) + layout::stride(flags) * count {
+    if size != 8 + layout::run_head(flags) + layout::stride(flags) * count {
         return false;
     }
     runs::apart(flags)
@@ -173,14 +221,23 @@ fn ended(base: u64, run: usize, len: usize, start: u64, payload: u64, sums: Sums
 }
 
 // Rules 15 to 18 of the run, then 20 to 22, by the fragment's start and its defaults.
-fn rest(m: &[u8], base: u64, head: u64, payload: u64, d: Defaults, start: u64, run: usize) -> Quick
+fn rest(
+    m: &[u8],
+    base: u64,
+    head: u64,
+    payload: u64,
+    d: Defaults,
+    start: u64,
+    run: usize,
+    size: usize,
+) -> Quick
     requires { ⌜ (length (now m) ≤ 4294967296) × (base ≤ 4294967296) × (head ≤ 16) ⌝ }
-    requires { ⌜ LastRun (now m) run ⌝ }
+    requires { ⌜ RunAt (now m) run size ⌝ }
     ensures { λ r. ⌜ saysRest r base (now (m .entry)) d start head payload run ⌝ }
 {
     let flags = numbers::near3(m, run + 9);
     let count = numbers::near4(m, run + 12) as usize;
-    if !run_fits(m, run, flags, count) {
+    if !run_fits(m, run, size, flags, count) {
         return Quick::Other;
     }
     let len = m.len();
@@ -209,7 +266,7 @@ pub fn quick_check(
     ensures { λ r. ⌜ saysQuick r (shape base (now (m .entry)) (h .id) then timing base (now (m .entry)) (h .defaults) head payload k prev) (now (m .entry)) (h .defaults) ⌝ }
 {
     let found = usual_of(m);
-    let Usual::At { tfdt, run } = found else {
+    let Usual::At { tfdt, run, size } = found else {
         return Quick::Other;
     };
     let flags = numbers::near4(m, 40);
@@ -224,5 +281,5 @@ pub fn quick_check(
         return Quick::Other;
     }
     let own = layout::defaults_behind(m, 40, flags, h.defaults);
-    rest(m, base, head, payload, own, start, run)
+    rest(m, base, head, payload, own, start, run, size)
 }

@@ -1,4 +1,7 @@
 -- `fragment::check` meets its contract. Assumes nothing.
+use native.Mathlib.Omega.{arith}
+use denote.Ref.{now}
+use Rattle.fragment.proofs.Judged.{timed-says}
 use Rattle.rules.proofs.Then.{then-holds, then-breaks}
 use borrow.Author.Needs.{needs}
 use Rattle.fragment.proofs.check.Statement.{statement}
@@ -9,16 +12,19 @@ returns c = rw (c .before .quick .given .1) at (c .before .before .before .quick
 
 time-requires : tie.Need-time-requires
 time-requires c κs =
-    let r = rw (c .before .before .answer2 .given .1) at (c .before .before .before .before .shape-of .ensures) in
-    (c .before .before .before .before .before .before .before .before .before .pre, r .1)
+    let r = rw (c .before .answer2 .given .1) at (c .before .before .before .shape-of .ensures) in
+    (omega (arith, c .before .before .before .before .before .before .before .before .pre, r .1 .runs .ticksLow), r .1 .stand)
 
 returns-2 : tie.Need-returns-2
 returns-2 c = then-breaks _ (rw (c .before .answer .given .1) at (c .before .before .before .shape-of .ensures))
 
 returns-3 : tie.Need-returns-3
 returns-3 c =
-    let r = rw (c .before .before .before .answer2 .given .1) at (c .before .before .before .before .before .shape-of .ensures) in
-    rw (then-holds _ (r .0)) (c .time .ensures)
+    let a = c .before .before .before .before .before .before .before .before .before .args in
+    let s = c .before .before .answer2 in
+    let r = rw (s .given .1) at (c .before .before .before .before .shape-of .ensures) in
+    rw (then-holds _ (r .0))
+    (timed-says (a .base) (now (a .m)) (a .h .defaults) (a .head) (s .given .0 .0) (r .1) (c .time .result) (a .payload) (a .k) (a .prev) (c .time .ensures))
 
 pub check-spec : {M : Type 1} → statement M
 check-spec =

@@ -7,12 +7,12 @@ use lib.ListN.{length}
 use borrow.Author.Needs.{needs}
 use denote.Ref.{now}
 use Rattle.rules.specs.Header.{plain, field}
-use Rattle.rules.specs.Fragment.{flagsOf, runsIn, rule15, rule15runs, rule16runs, samplesOf}
+use Rattle.rules.specs.Fragment.{flagsOf, runsIn, rule15, rule15runs}
 use Rattle.rules.proofs.Then.{then-holds, then-breaks, must-true, must-false}
 use Rattle.fragment.specs.Bodies.{timeAt}
 use Rattle.fragment.specs.Runs.{runsAt}
 use Rattle.fragment.proofs.Counted.{body-low}
-use Rattle.fragment.proofs.Standing.{start-is, tfhd-is, tfdt-is, From, runs-from, rule15-is}
+use Rattle.fragment.proofs.Standing.{start-is, tfhd-is, tfdt-is, defaults-are, From, runs-from, rule15-is}
 use Rattle.fragment.proofs.bodies.read_bodies.Statement.{statement}
 use Rattle.fragment.proofs.bodies.read_bodies.Tie as tie
 
@@ -60,6 +60,9 @@ from c =
 sub-survey-runs : tie.Need-sub-survey-runs
 sub-survey-runs c = from (c .before .before) .after
 
+add-survey-runs : tie.Need-add-survey-runs
+add-survey-runs c = omega (arith, c .before .before .before .before .before .before .before .before .before .before .before .before .before .before .before .before .pre .0)
+
 survey-runs-requires : tie.Need-survey-runs-requires
 survey-runs-requires c κs =
     let n = c .before .before in
@@ -94,14 +97,14 @@ returns-5 c =
     let m = now (s .args .m) in
     let h = rw (k .before .tfhd .given .1) at (k .before .before .before .read-tfhd .ensures) in
     let d = rw (t .before .tfdt .given .1) at (t .before .before .before .read-tfdt .ensures) in
+    let own = h .3 ∙ defaults-are m (s .args .x) (s .pre .1) (s .args .d) in
     let r = rw (c .before .all2 .given .1) at (v .survey-runs .ensures) in (
       rest v ∙ r .0,
       record {
         flags = h .1 ∙ ap (flagsOf m) (tfhd-is m (s .args .x) (s .pre .1));
         id = h .2 ∙ ap (λ (y : ℕ). field m y 4) (tfhd-is m (s .args .x) (s .pre .1));
         start = d .1 ∙ ap (timeAt m) (tfdt-is m (s .args .x) (s .pre .1)) ∙ start-is m;
-        clash = r .1 ∙ ap (rule16runs (s .args .base) m) (from (v .before .before .before) .runs);
-        samples = r .2 ∙ ap (samplesOf m) (from (v .before .before .before) .runs);
+        runs = rw (← own, ← from (v .before .before .before) .runs) (r .1);
       },
     )
 
@@ -128,6 +131,7 @@ read-bodies-spec =
     (λ c κs. search needs)
     (λ c. search needs)
     sub-survey-runs
+    add-survey-runs
     survey-runs-requires
     (λ c. search needs)
     (λ c. search needs)

@@ -39,6 +39,8 @@ returns-2 c =
           (eq-eqb _ _ (c .if2 .taken)),
       f .flags,
       rw (← f .head) (b .before .be4 .ensures),
+      rw (← f .head),
+      omega (arith, f .headLow),
     )
 
 returns-3 : tie.Need-returns-3

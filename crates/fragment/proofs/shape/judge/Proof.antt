@@ -26,24 +26,24 @@ rest c =
     let s = c .before .before .before .before .before .before in
     let a = s .args in
     let r = rw (c .before .before .read2 .given .1) at (c .before .before .before .before .read-bodies .ensures) in
-    then-holds _ (r .0) ∙ sym (settled-is (a .base) (now (a .m)) (a .id) (a .x) (s .pre .1) (c .before .before .read2 .given .0 .0) (r .1)) ∙ sym (c .settle .ensures)
+    then-holds _ (r .0) ∙ sym (settled-is (a .base) (now (a .m)) (a .id) (a .x) (s .pre .1) (a .d) (a .head) (c .before .before .read2 .given .0 .0) (r .1)) ∙ sym (c .settle .ensures)
 
 returns-2 : tie.Need-returns-2
 returns-2 c = rest (c .before .before .before) ∙ ap ruleOf (c .before .told .given .1)
 
 returns-3 : tie.Need-returns-3
 returns-3 c =
-    let t = c .before .before in
+    let t = c .before .before .before in
     let s = t .before .before .before .before .before .before in
     let a = s .args in
     let k = t .before .before .read2 in
     let r = rw (k .given .1) at (t .before .before .before .before .read-bodies .ensures) in
-    let e = ap ruleOf (c .enum-told .given .1) in (
+    let e = ap ruleOf (c .before .enum-told .given .1) in (
       rest t ∙ e,
       record {
         stand = s .pre .1;
         start = r .1 .start;
-        few = omega (arith, r .1 .samples, settled-few (a .base) (a .id) (a .x .tfhd) (a .x .traf) (k .given .0 .0) (sym (t .settle .ensures) ∙ e));
+        runs = r .1 .runs .tiles (omega (arith, r .1 .runs .samples, settled-few (a .base) (a .id) (a .x .tfhd) (a .x .traf) (k .given .0 .0) (sym (t .settle .ensures) ∙ e)));
       },
     )
 

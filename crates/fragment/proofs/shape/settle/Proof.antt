@@ -1,23 +1,43 @@
 -- `fragment::shape::settle` meets its contract. Assumes nothing.
+use mathlib.Core.Path.{sym, ap, _∙_}
 use borrow.Author.Needs.{needs}
+use borrow.Author.Tests.{not-true, not-false, eq-eqb, ne-eqb}
+use Rattle.rules.proofs.Then.{then-holds, then-breaks, must-true, must-false}
+use Rattle.fragment.specs.Told.{ruleOf}
 use Rattle.fragment.specs.Shape.{settled}
 use Rattle.fragment.proofs.shape.settle.Statement.{statement}
 use Rattle.fragment.proofs.shape.settle.Tie as tie
 
 returns : tie.Need-returns
 unfolding settled
-returns c =
-    let f = c .before .before .before .before .before .before in
-    rw (
-      ← f .before .before .flagged .ensures,
-      ← f .before .must .ensures,
-      ← f .first-of .ensures,
-      ← c .before .before .before .few .ensures,
-      ← c .before .before .must3 .ensures,
-      ← c .before .before .before .before .must2 .ensures,
-      ← c .before .first-of2 .ensures,
-    )
-    (c .first-of3 .ensures)
+returns c = sym (then-breaks _ (then-breaks _ (must-false 16 _ (sym (c .before .flagged .ensures) ∙ not-true _ (c .if1 .taken)))))
+
+returns-2 : tie.Need-returns-2
+unfolding settled
+returns-2 c =
+    let f = c .before .before .before in
+    let e = ap ruleOf (c .enum-told2 .given .1) in
+    e ∙ sym (then-breaks _ (then-holds _ (must-true 16 _ (sym (f .before .flagged .ensures) ∙ not-false _ (f .if1 .left))) ∙ e))
+
+returns-3 : tie.Need-returns-3
+unfolding settled
+returns-3 c =
+    let h = c .before .before in
+    let f = h .before .before .before in
+    sym
+    (then-holds _ (then-holds _ (must-true 16 _ (sym (f .before .flagged .ensures) ∙ not-false _ (f .if1 .left))) ∙ ap ruleOf (h .enum-told .given .1))
+    ∙ then-breaks _ (must-false 17 _ (ne-eqb _ _ (c .if2 .taken))))
+
+returns-4 : tie.Need-returns-4
+unfolding settled
+returns-4 c =
+    let i = c .before .before in
+    let h = i .before .before in
+    let f = h .before .before .before in
+    sym
+    (then-holds _ (then-holds _ (must-true 16 _ (sym (f .before .flagged .ensures) ∙ not-false _ (f .if1 .left))) ∙ ap ruleOf (h .enum-told .given .1))
+    ∙ then-holds _ (must-true 17 _ (eq-eqb _ _ (i .if2 .left)))
+    ∙ rw (← c .before .few .ensures) (sym (c .must .ensures)))
 
 pub settle-spec : {M : Type 1} → statement M
 settle-spec =
@@ -25,12 +45,12 @@ settle-spec =
     (tie.spec
     (λ c. search needs)
     (λ c κs. search needs)
-    (λ c κs. search needs)
-    (λ c κs. search needs)
-    (λ c κs. search needs)
+    returns
+    (λ c. search needs)
+    (λ c. search needs)
+    returns-2
+    returns-3
     (λ c κs. search needs)
     (λ c. search needs)
     (λ c κs. search needs)
-    (λ c κs. search needs)
-    (λ c κs. search needs)
-    returns)
+    returns-4)

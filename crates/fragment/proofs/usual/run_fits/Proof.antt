@@ -59,7 +59,6 @@ run-fits-spec =
     returns
     returns-2
     returns-3
-    (λ c. search needs)
     (λ c κs. search needs)
     (λ c. search needs)
     (λ c κs. search needs)

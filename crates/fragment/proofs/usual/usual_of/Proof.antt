@@ -2,29 +2,35 @@
 use mathlib.Core.Path.{refl, sym, _∙_}
 use native.Mathlib.Omega.{arith}
 use lib.ListN.{length}
-use borrow.Author.Needs.{needs}
 use borrow.Author.Tests.{not-false}
 use denote.Ref.{now}
 use Rattle.fragment.proofs.Usually.{usually}
+use borrow.Author.Needs.{needs}
 use Rattle.fragment.proofs.usual.usual_of.Statement.{statement}
 use Rattle.fragment.proofs.usual.usual_of.Tie as tie
 
-returns-12 : tie.Need-returns-12
-returns-12 c =
-    let e = c .before .before .before .before .before .before in
-    let f = e .before .before .before .before .before in
-    let g = f .before .before .before .before .before .before in
-    let m = now (g .before .before .before .args .m) in
-    usually m (length m) (f .near42 .result) (e .near43 .result) (sym (g .near4 .ensures) ∙ f .before .before .before .before .before .if2 .left) refl
-    (sym (f .before .before .before .before .headed .ensures) ∙ not-false _ (f .before .before .before .if3 .left))
-    (sym (f .before .before .headed2 .ensures) ∙ not-false _ (f .before .if4 .left))
-    (sym (e .before .before .headed3 .ensures) ∙ not-false _ (e .before .if7 .left))
-    (sym (c .before .before .before .headed4 .ensures) ∙ not-false _ (c .before .before .if10 .left))
-    (sym (c .before .headed5 .ensures) ∙ not-false _ (c .if11 .left))
-    (e .before .before .before .before .if5 .left)
-    (c .before .before .before .before .before .if8 .left)
-    (omega (arith, c .before .before .before .before .if9 .left, e .before .before .before .if6 .left))
-    (omega (arith, g .near4 .ok, f .before .before .before .before .before .if2 .left))
+box-at-requires-3 : tie.Need-box-at-requires-3
+box-at-requires-3 c κs = omega (arith, c .before .box-at2 .ensures .0 (c .if4 .left), c .before .box-at2 .ensures .1)
+
+returns-10 : tie.Need-returns-10
+returns-10 c =
+    let r = c .before .before .before .before in
+    let t = r .before .before in
+    let h = t .before .before in
+    let o = h .before .before in
+    let e = o .before .before in
+    let g = e .before .before in
+    let m = now (g .before .before .before .before .args .m) in
+    usually m (length m) (e .before .box-at .result) (o .before .box-at2 .result) (h .before .box-at3 .result) (t .before .box-at4 .result) (r .before .box-at5 .result)
+    (sym (g .before .near4 .ensures) ∙ g .if2 .left) refl
+    (e .before .box-at .ensures .0 (e .if3 .left))
+    (o .before .box-at2 .ensures .0 (o .if4 .left))
+    (h .before .box-at3 .ensures .0 (h .if5 .left))
+    (t .before .box-at4 .ensures .0 (t .if6 .left))
+    (r .before .box-at5 .ensures .0 (r .if7 .left))
+    (rw (not-false (c .before .before .before .none-behind .result) (c .before .before .if8 .left)) at (c .before .before .before .none-behind .ensures))
+    (rw (not-false (c .before .none-behind2 .result) (c .if9 .left)) at (c .before .none-behind2 .ensures))
+    (omega (arith, g .before .near4 .ok, g .if2 .left))
 
 pub usual-of-spec : {M : Type 1} → statement M
 usual-of-spec =
@@ -36,27 +42,20 @@ usual-of-spec =
     (λ c. search needs)
     (λ c κs. search needs)
     (λ c. search needs)
-    (λ c. search needs)
-    (λ c κs. search needs)
-    (λ c. search needs)
     (λ c κs. search needs)
     (λ c. search needs)
     (λ c. search needs)
-    (λ c. search needs)
-    (λ c. search needs)
-    (λ c κs. search needs)
+    box-at-requires-3
     (λ c. search needs)
     (λ c. search needs)
     (λ c κs. search needs)
     (λ c. search needs)
     (λ c. search needs)
-    (λ c. search needs)
+    (λ c κs. search needs)
     (λ c. search needs)
     (λ c. search needs)
     (λ c κs. search needs)
     (λ c. search needs)
-    (λ c. search needs)
-    (λ c. search needs)
     (λ c κs. search needs)
     (λ c. search needs)
-    returns-12)
+    returns-10)
