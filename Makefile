@@ -1,6 +1,7 @@
 # What can be made here. All of it needs the Rattle kit (rt on the PATH), and:
 #   check      proves every crate and runs the programs
 #   test       the gate: everything from nothing
+#   ground     the gate of the ground alone: numbers, the written rules, their must-fail edits
 #   fmt        lays out the Rattle and the Rust sources                   (cargo)
 #   trials     the proved code against the Rust reference, CASES a job    (cargo, gcc)
 #   stack      every exported function on its worst inputs in 64 KiB      (cargo, gcc; x86-64)
@@ -25,13 +26,17 @@ LINKED := yes
 NEEDED := $(ARCHIVE)
 endif
 
-.PHONY: check test fmt trials stack bench c-example samples vectors
+.PHONY: check test ground fmt trials stack bench c-example samples vectors
 
 check:
 	rt check
 
 test:
 	bash .ci/run
+
+ground:
+	rm -rf target
+	rt must-fail rules
 
 fmt:
 	rt fmt

@@ -4,7 +4,7 @@
 use crate::drawn::AMPLE;
 use crate::judge::Judge;
 use crate::run::compare;
-use crate::tracks::{bundle, crowded, large, many_runs, Shape, State};
+use crate::tracks::{bundle, crowded, large, many_runs, unusual, Dress, Shape, State};
 use maker::cases::Job;
 use maker::node::{self, Node};
 use std::hint::black_box;
@@ -33,9 +33,14 @@ pub fn bench(tried: Judge) -> Result<(), String> {
         }
     }
     let fragments = large(0, Shape::ManyFragments);
-    for (name, boxes) in
-        [("4,096 boxes", crowded()), ("582 fragments", fragments), ("4,070 runs", many_runs())]
-    {
+    for (name, boxes) in [
+        ("4,096 boxes", crowded()),
+        ("582 fragments", fragments),
+        ("509 fragments, a box behind", unusual(Dress::BoxBehind)),
+        ("509 fragments of two runs", unusual(Dress::TwoRuns)),
+        ("582 fragments, long headers", unusual(Dress::LongHeaders)),
+        ("4,070 runs", many_runs()),
+    ] {
         worst = worst.max(bench_track(tried, name, boxes)?);
     }
     println!("worst ratio {worst:.2}");

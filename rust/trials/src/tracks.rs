@@ -1,8 +1,9 @@
 //! Large and crowded tracks, for the bench and the stack.
 
 use maker::bundle::MARK;
-use maker::node::{self, Content, Node};
+use maker::node::{self, Content, Header, Node};
 use maker::track::{Defaults, Fill, Fragment, Run, Sample, Track, NON_SYNC};
+use reference::MAX_BOXES;
 
 /// No more fragments fit into 4,096 boxes beside the header.
 pub const MAX_FRAGMENTS: usize = 582;
@@ -45,7 +46,62 @@ impl Shape {
 
 /// A good track of about this many bytes.
 pub fn large(bytes: usize, shape: Shape) -> Vec<Node> {
-    let (fragments, samples) = shape.plan(bytes);
+    planned(bytes, shape.plan(bytes)).boxes(&mut Fill::Zeros)
+}
+
+/// As many fragments of a sample each as fit, with what few encoders write.
+pub fn unusual(dress: Dress) -> Vec<Node> {
+    let fragments = match dress {
+        Dress::BoxBehind | Dress::TwoRuns => (MAX_BOXES - 20) / 8,
+        Dress::LongHeaders => MAX_FRAGMENTS,
+    };
+    let mut track = planned(0, (fragments, 1));
+    if let Dress::TwoRuns = dress {
+        for fragment in &mut track.fragments {
+            fragment.runs.push(fragment.runs[0].clone());
+            fragment.start *= 2;
+        }
+    }
+    let mut boxes = track.boxes(&mut Fill::Zeros);
+    for moof in boxes.iter_mut().filter(|node| node.kind == *b"moof") {
+        dress.put_on(moof);
+    }
+    track.settle(&mut boxes);
+    boxes
+}
+
+/// What stands in a `moof` beside, or instead of, what most encoders write.
+#[derive(Clone, Copy)]
+pub enum Dress {
+    /// A box that no rule names, behind the run.
+    BoxBehind,
+    /// A second run.
+    TwoRuns,
+    /// The long header, in every box.
+    LongHeaders,
+}
+
+impl Dress {
+    fn put_on(self, moof: &mut Node) {
+        match self {
+            Dress::BoxBehind => {
+                let is_traf = |node: &&mut Node| node.kind == *b"traf";
+                let traf = moof.boxes().iter_mut().find(is_traf).expect("a traf");
+                traf.boxes().push(Node::leaf(b"saiz", vec![0; 9]));
+            }
+            Dress::TwoRuns => (),
+            Dress::LongHeaders => {
+                moof.header = Header::Long;
+                if let Content::Boxes(inside) = &mut moof.content {
+                    inside.iter_mut().for_each(|node| self.put_on(node));
+                }
+            }
+        }
+    }
+}
+
+/// A good track of so many fragments, of so many samples each, in about this many bytes.
+fn planned(bytes: usize, (fragments, samples): (usize, usize)) -> Track {
     let entries = fragments * samples * 8;
     let size = (bytes.saturating_sub(entries) / fragments / samples) as u32;
     let fragment = |nth: usize| {
@@ -76,13 +132,13 @@ pub fn large(bytes: usize, shape: Shape) -> Vec<Node> {
     let mut track = Track::example(0);
     track.trex.flags = NON_SYNC;
     track.fragments = (0..fragments).map(fragment).collect();
-    track.boxes(&mut Fill::Zeros)
+    track
 }
 
 /// A good track of 4,096 boxes, all but those of T being empty.
 pub fn crowded() -> Vec<Node> {
     let mut boxes = maker::examples::track_t();
-    node::fill_up(&mut boxes, reference::MAX_BOXES);
+    node::fill_up(&mut boxes, MAX_BOXES);
     boxes
 }
 
@@ -96,7 +152,7 @@ pub fn many_runs() -> Vec<Node> {
         samples: vec![Sample { duration: 1, size: 1, ..Sample::default() }; count],
         offset_error: 0,
     };
-    let runs = reference::MAX_BOXES - 20 - 6;
+    let runs = MAX_BOXES - 20 - 6;
     let mut track = Track::example(1);
     let mut counts = vec![MAX_SAMPLES / runs; runs];
     counts[0] += MAX_SAMPLES % runs;
