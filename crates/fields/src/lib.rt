@@ -58,6 +58,38 @@ pub fn part(s: &[u8], a: usize, n: u64) -> &[u8]
     }
 }
 
+// A header's length and the whole size that it declares.
+pub struct Span {
+    pub head: usize,
+    pub size: u64,
+}
+
+// What the header of the box at a place says: by one range test where 16 bytes stand there, else number by number.
+pub fn span_at(s: &[u8], at: usize) -> Span
+    ensures { λ r. ⌜ (r .head ≡ headOf (now (s .entry)) at) × (r .size ≡ sizeOf (now (s .entry)) at) ⌝ }
+    ensures { λ r. ⌜ (8 ≤ r .head) × (r .head ≤ 16) ⌝ }
+{
+    if 16 <= s.len() {
+        if at <= s.len() - 16 {
+            let short = numbers::near4(s, at);
+            if short == 1 {
+                return Span {
+                    head: 16,
+                    size: numbers::near8(s, at + 8),
+                };
+            }
+            return Span {
+                head: 8,
+                size: short as u64,
+            };
+        }
+    }
+    Span {
+        head: head_of(s, at),
+        size: size_of(s, at),
+    }
+}
+
 // The bytes of the box at a place, whole.
 pub fn whole(s: &[u8], at: usize) -> &[u8]
     ensures { λ r. ⌜ now r ≡ whole (now (s .entry)) at ⌝ }
@@ -73,10 +105,9 @@ pub fn body(s: &[u8], at: usize) -> &[u8]
     if s.len() <= at {
         return &s[..0];
     }
-    let head = head_of(s, at);
-    let size = size_of(s, at);
-    let payload = less(size, head as u64);
-    let a = at + head;
+    let x = span_at(s, at);
+    let payload = less(x.size, x.head as u64);
+    let a = at + x.head;
     part(s, a, payload)
 }
 
@@ -137,9 +168,8 @@ pub fn flags_of(s: &[u8], at: usize) -> u32
 pub fn short_size(s: &[u8], at: usize) -> u64
     ensures { λ r. ⌜ r ≡ shortSize (now (s .entry)) at ⌝ }
 {
-    let head = head_of(s, at);
-    let size = size_of(s, at);
-    less(size, head as u64) + 8
+    let x = span_at(s, at);
+    less(x.size, x.head as u64) + 8
 }
 
 // The head of a full box: its header's length, its size with the short header, its version and its flags.

@@ -10,8 +10,10 @@ use borrow.Author.Tests.{eqb-true, ne-eqb}
 use Rattle.numbers.specs.Numbers.{when}
 use Rattle.rules.specs.Kinds.{named}
 use Rattle.rules.specs.Boxes.{Box, look, boxes, placesOf, seen, seenFrom, again, firstOf}
+use Rattle.rules.specs.Header.{someOf}
 use Rattle.rules.specs.declared.Look.{Look}
 use Rattle.rules.specs.declared.Look.the-variants.{Nothing, Short, Small, Beyond, Header}
+use Rattle.rules.specs.declared.Rule.the-variants.{Holds}
 use Rattle.rules.specs.declared.Seen.{Seen}
 use Rattle.rules.specs.declared.Seen.the-variants.{Never, Once, Twice}
 use Rattle.rules.proofs.Forest.{look-found, boxes-by, places-hit, places-miss, places-end}
@@ -19,7 +21,7 @@ use Rattle.boxes.specs.Siblings.{Comes}
 use Rattle.boxes.proofs.Walks.{passed-none, comes}
 
 -- something was seen, and a was first
-data Since (a : ℕ) : Seen → Type 0 where
+pub data Since (a : ℕ) : Seen → Type 0 where
   once : Since a (Once a)
   twice : {b : ℕ} → Since a (Twice a b)
 
@@ -28,14 +30,20 @@ since-again true at once = twice
 since-again true at twice = twice
 since-again false at i = i
 
-since-first : {a : ℕ} {v : Seen} → Since a v → firstOf v ≡ a
+pub since-first : {a : ℕ} {v : Seen} → Since a v → firstOf v ≡ a
 since-first once = refl
 since-first twice = refl
 
+-- enough is then seen
+pub since-some : {a : ℕ} {v : Seen} (n container : ℕ) → Since a v → someOf n container v ≡ Holds
+unfolding someOf
+since-some n container once = refl
+since-some n container twice = refl
+
 -- what was seen first stays first
-first-stays : {a : ℕ} {v : Seen} (w : ℕ) (xs : List Box) → Since a v → firstOf (seenFrom v w xs) ≡ a
+pub first-stays : {a : ℕ} {v : Seen} (w : ℕ) (xs : List Box) → Since a v → Since a (seenFrom v w xs)
 unfolding seenFrom
-first-stays w [] i = since-first i
+first-stays w [] i = i
 first-stays w (x ∷ xs) i = first-stays w xs (since-again (named w (x .kind)) (x .at) i)
 
 -- the first place of a list, 0 where there is none
@@ -54,7 +62,7 @@ unfolding seenFrom placesOf
 first-place w h [] = refl
 first-place w h (x ∷ xs) =
     let b : (t : Bool) → firstOf (seenFrom (when t (Once (x .at)) Never) w xs) ≡ headOr0 (when t (x .at ∷ placesOf w xs) (placesOf w xs))
-    = elim [ true ↦ first-stays w xs once | false ↦ first-place w h xs ] in
+    = elim [ true ↦ since-first (first-stays w xs once) | false ↦ first-place w h xs ] in
     rw (named-is w (x .kind) h) (b (eqb (x .kind) w))
 
 module _ (s : List ℕ) (w : ℕ) (h : 0 < w) where

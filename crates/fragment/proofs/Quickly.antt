@@ -12,7 +12,7 @@ use Rattle.rules.specs.Limits.{sampleLimit}
 use Rattle.rules.specs.Rules.{_then_, must}
 use Rattle.rules.specs.Boxes.{headOf}
 use Rattle.rules.specs.Header.{shortSize, version, field, versioned, plain}
-use Rattle.rules.specs.Fragment.{flagsOf, tfhdSize, runHead, stride, countOf, runSized, rule15, rule15runs, rule16, rule16runs, rule17, rule18, samplesOf, shape, startOf, defaultsIn, runDuration, runBytes, durationsOf, bytesIn, firstFlags, durationIn, endOf, syncIn, rule19, rule20, rule21, placed, rule22runs, rule22, timing}
+use Rattle.rules.specs.Fragment.{runsIn, flagsOf, tfhdSize, runHead, stride, countOf, runSized, rule15, rule15runs, rule16, rule16runs, rule17, rule18, samplesOf, shape, startOf, defaultsIn, runDuration, runBytes, durationsOf, bytesIn, firstFlags, durationIn, endOf, syncIn, rule19, rule20, rule21, placed, rule22runs, rule22, timing}
 use Rattle.rules.specs.declared.Rule.{Rule}
 use Rattle.rules.specs.declared.Rule.the-variants.{Holds}
 use Rattle.rules.specs.declared.Defaults.{Defaults}
@@ -110,7 +110,7 @@ module _ {m : List ℕ} {r c f n : ℕ} (x : RunRead m r c f n) where
         run-is g says = (run-shape base, rw (run-timing, ticks-are) says)
 
 -- the whole fragment, by its `mfhd`, its `tfhd` and its `tfdt`, whose fields are read behind short headers
-module _ (m : List ℕ) (t r c : ℕ) (u : UsualAt m t r c) (f id : ℕ) (flags : f ≡ be4 m 40) (fits : headsFit m t f id ≡ true) where
+module _ (m : List ℕ) (t r c e : ℕ) (u : UsualAt m t r c e) (only : runsIn m ≡ r ∷ []) (f id : ℕ) (flags : f ≡ be4 m 40) (fits : headsFit m t f id ≡ true) where
   tests : (eqb (byte m 16) 0 ≡ true)
       × (ltb f 16777216 ≡ true)
       × (eqb (t - 32) (tfhdSize f) ≡ true)
@@ -155,11 +155,11 @@ module _ (m : List ℕ) (t r c : ℕ) (u : UsualAt m t r c) (f id : ℕ) (flags 
 
     holds15 : rule15 base m ≡ Holds
     unfolding rule15 must _then_
-    holds15 = rw (u .mfhd, u .tfhd, u .tfdt, u .runs, tfhd-flags, mfhd-plain, tfhd-plain, sized) (runs-hold .0)
+    holds15 = rw (u .mfhd, u .tfhd, u .tfdt, only, tfhd-flags, mfhd-plain, tfhd-plain, sized) (runs-hold .0)
 
     holds16 : rule16 base m ≡ Holds
     unfolding rule16 must _then_
-    holds16 = rw (u .tfhd, u .runs, tfhd-flags, tests .3) (runs-hold .1)
+    holds16 = rw (u .tfhd, only, tfhd-flags, tests .3) (runs-hold .1)
 
     holds17 : rule17 base m id ≡ Holds
     unfolding rule17 must field
@@ -167,7 +167,7 @@ module _ (m : List ℕ) (t r c : ℕ) (u : UsualAt m t r c) (f id : ℕ) (flags 
 
     holds18 : rule18 base m ≡ Holds
     unfolding rule18
-    holds18 = rw (u .runs, u .traf) (runs-hold .2)
+    holds18 = rw (only, u .traf) (runs-hold .2)
 
     shape-holds : shape base m id ≡ Holds
     unfolding shape _then_
@@ -181,7 +181,7 @@ module _ (m : List ℕ) (t r c : ℕ) (u : UsualAt m t r c) (f id : ℕ) (flags 
 
     ends : start + durationsOf m own (r ∷ []) ≡ endOf m d
     unfolding endOf durationIn
-    ends = rw (begins, own-is, u .runs)
+    ends = rw (begins, own-is, only)
 
     timing-is :
         (base head payload k prev : ℕ) → (eqb k 0 || eqb start prev) ≡ true →
@@ -189,7 +189,7 @@ module _ (m : List ℕ) (t r c : ℕ) (u : UsualAt m t r c) (f id : ℕ) (flags 
     unfolding timing rule19 rule20 rule21 rule22 durationIn endOf syncIn runTiming must _then_
     timing-is base head payload k prev follows =
         let now : (eqb k 0 || eqb (startOf m) prev) ≡ true = rw (← begins) follows in
-        rw (now, own-is, begins, u .runs, u .first)
+        rw (now, own-is, begins, only, u .first)
 
     -- what is known of the run is known of the fragment
     pub quick-is :

@@ -1,5 +1,5 @@
 -- Laws of the usual layout: where its boxes stand is where rule 14 finds them.
-use mathlib.Core.Path.{_≡_, refl, ap, _∙_}
+use mathlib.Core.Path.{_≡_, refl, sym, ap, _∙_}
 use mathlib.Core.List.{List, [], _∷_}
 use mathlib.Core.Bool.{Bool, true, false}
 use Prim.Native.Nat.{ℕ, _+_, _-_, _<_, _≤_}
@@ -9,15 +9,17 @@ use lib.Dec.{eqb}
 use Rattle.numbers.specs.Numbers.{be4, when}
 use Rattle.rules.specs.Kinds.{mfhd, traf, tfhd, tfdt, trun, named}
 use Rattle.rules.specs.Boxes.{Box, part, boxes, kids, child, again, seen, seenFrom, placesOf, headOf}
-use Rattle.rules.specs.Header.{one, oneOf, someOf}
+use Rattle.rules.specs.Header.{one, oneOf}
 use Rattle.rules.specs.Fragment.{trafIn, runsIn, shifted, rule14}
 use Rattle.rules.specs.Rules.{_then_}
 use Rattle.rules.specs.declared.Rule.the-variants.{Holds}
 use Rattle.rules.specs.declared.Seen.{Seen}
 use Rattle.rules.specs.declared.Seen.the-variants.{Once}
 use Rattle.rules.proofs.Forest.{look-nothing, boxes-nothing, places-end}
+use Rattle.fragment.specs.Counts.{saysFound}
 use Rattle.fragment.specs.Usual.{BoxAt, NoneOf, UsualAt}
-use Rattle.fragment.proofs.First.{named-is}
+use Rattle.fragment.specs.declared.counts.Found.the-variants.{All}
+use Rattle.fragment.proofs.First.{Since, once, since-first, since-some, first-stays, named-is}
 use Rattle.fragment.proofs.Short.{box-short, short-head, body-short}
 
 -- no byte is left in a part, so no box
@@ -36,7 +38,7 @@ seen-stays w h v (x ∷ xs) e =
     = elim [ true ↦ λ n. absurd (omega (arith, ap length n)) | false ↦ λ n. seen-stays w h v xs n ] in
     rw (named-is w (x .kind) h) (by (eqb (x .kind) w) e)
 
-module _ (m : List ℕ) (n y z a b c : ℕ) (size : be4 m 0 ≡ n) (all : n ≡ length m) (outer : BoxAt m 8 24 y mfhd) (inner : BoxAt m 24 n z traf) (first : BoxAt m 32 (24 + z) a tfhd) (second : BoxAt m (32 + a) (24 + z) b tfdt) (third : BoxAt m (32 + a + b) (24 + z) c trun) (after : NoneOf (part m 32 (24 + z - 32)) (32 + a + b + c - 32) tfhd tfdt trun) (last : NoneOf (part m 8 (n - 8)) (24 + z - 8) mfhd traf traf) (small : n ≤ 4294967295) where
+module _ (m : List ℕ) (n y z a b c : ℕ) (size : be4 m 0 ≡ n) (all : n ≡ length m) (outer : BoxAt m 8 24 y mfhd) (inner : BoxAt m 24 n z traf) (first : BoxAt m 32 (24 + z) a tfhd) (second : BoxAt m (32 + a) (24 + z) b tfdt) (third : BoxAt m (32 + a + b) (24 + z) c trun) (after : NoneOf (part m 32 (24 + z - 32)) (32 + a + b + c - 32) tfhd tfdt tfdt) (last : NoneOf (part m 8 (n - 8)) (24 + z - 8) mfhd traf traf) (small : n ≤ 4294967295) where
   -- how the sizes lie
   mfhd-size : y ≡ 16
   mfhd-size = omega (arith, outer .low, outer .fits)
@@ -81,7 +83,7 @@ module _ (m : List ℕ) (n y z a b c : ℕ) (size : be4 m 0 ≡ n) (all : n ≡ 
   traf-head : headOf m 24 ≡ 8
   traf-head = short-head m 24 z (inner .size) (omega (arith, deep))
 
-  -- each type is seen once
+  -- each type is seen once, but `trun` at least once
   see-mfhd : seen mfhd (kids m 0) ≡ Once 0
   unfolding seenFrom named
   see-mfhd = ap (seen mfhd) in-moof ∙ seen-stays mfhd (omega arith) (Once 0) _ (last .first)
@@ -98,19 +100,19 @@ module _ (m : List ℕ) (n y z a b c : ℕ) (size : be4 m 0 ≡ n) (all : n ≡ 
   unfolding seenFrom named
   see-tfdt = ap (seen tfdt) in-traf ∙ seen-stays tfdt (omega arith) (Once a) _ (after .second)
 
-  see-trun : seen trun (kids m 24) ≡ Once (a + b)
+  see-trun : Since (a + b) (seen trun (kids m 24))
   unfolding seenFrom named
-  see-trun = ap (seen trun) in-traf ∙ seen-stays trun (omega arith) (Once (a + b)) _ (after .third)
+  see-trun = rw in-traf (first-stays trun (boxes (part m 32 (24 + z - 32)) (32 + a + b + c - 32)) once)
 
   traf-at : trafIn m ≡ 24
   unfolding child
   traf-at = rw (moof-head, see-traf)
 
   counted : (base : ℕ) → rule14 base m ≡ Holds
-  unfolding rule14 one oneOf someOf _then_
-  counted base = rw (traf-at, see-mfhd, see-traf, see-tfhd, see-tfdt, see-trun)
+  unfolding rule14 one oneOf _then_
+  counted base = rw (traf-at, see-mfhd, see-traf, see-tfhd, see-tfdt, since-some 14 (base + 24) see-trun)
 
-  pub usually : UsualAt m (32 + a) (32 + a + b) c
+  pub usually : UsualAt m (32 + a) (32 + a + b) c (24 + z)
   unfolding child runsIn shifted placesOf
   usually =
       record {
@@ -119,8 +121,8 @@ module _ (m : List ℕ) (n y z a b c : ℕ) (size : be4 m 0 ≡ n) (all : n ≡ 
         traf = traf-at;
         tfhd = rw (traf-at, traf-head, see-tfhd);
         tfdt = rw (traf-at, traf-head, see-tfdt);
-        first = rw (traf-at, traf-head, see-trun) (omega arith);
-        runs = rw (traf-at, traf-head, in-traf, after .third) (ap (λ (x : ℕ). x ∷ []) (omega arith));
+        first = rw (traf-at, traf-head, since-first see-trun) (omega arith);
+        runs = rw (traf-at, traf-head, in-traf) (ap (λ (x : ℕ). x ∷ shifted 32 (placesOf trun (boxes (part m 32 (24 + z - 32)) (32 + a + b + c - 32)))) (omega arith));
         mfhdSize = outer .size ∙ mfhd-size;
         tfhdSize = ap (λ (x : ℕ). 32 + x) (first .size);
         tfdtSize = ap (λ (x : ℕ). 32 + a + x) (second .size);
@@ -128,6 +130,27 @@ module _ (m : List ℕ) (n y z a b c : ℕ) (size : be4 m 0 ≡ n) (all : n ≡ 
         low = omega (arith, first .low);
         middle = omega (arith, second .low);
         runLow = third .low;
-        high = omega (arith, third .fits, inner .fits, all);
+        high = third .fits;
+        ends = omega (arith, inner .fits, all);
         small = omega (arith, all);
       }
+
+-- what the usual layout says of its boxes
+module _ {m : List ℕ} {t r c e : ℕ} (u : UsualAt m t r c e) where
+  -- they are those of rule 14
+  pub usual-found : (base : ℕ) → saysFound (All (record { mfhd = 8; traf = 24; tfhd = 32; tfdt = t; run = r })) base m
+  usual-found base = (
+    u .counts base,
+    record {
+      mfhd = record { is = sym (u .mfhd); low = omega arith };
+      traf = record { is = sym (u .traf); low = omega (arith, u .low, u .middle, u .high, u .ends) };
+      tfhd = record { is = sym (rw (u .traf) at (u .tfhd)); low = omega arith };
+      tfdt = record { is = sym (rw (u .traf) at (u .tfdt)); low = omega (arith, u .middle, u .high, u .ends) };
+      run = record { is = sym (rw (u .traf) at (u .first)); low = omega (arith, u .high, u .ends) };
+    },
+  )
+
+  -- the first run is the only one where none stands behind it
+  pub single : {v w : ℕ} → NoneOf (part m 32 (e - 32)) (r + c - 32) trun v w → runsIn m ≡ r ∷ []
+  unfolding shifted
+  single none = u .runs ∙ rw (none .first)

@@ -6,12 +6,12 @@ use mathlib.Core.Bool.{Bool, true, false, not, _&&_}
 use lib.ListN.{length}
 use lib.Dec.{eqb, leb, ltb}
 use Rattle.numbers.specs.Numbers.{byte, be4, has}
-use Rattle.rules.specs.Kinds.{mfhd}
+use Rattle.rules.specs.Kinds.{mfhd, trun}
 use Rattle.rules.specs.Limits.{sampleLimit, tickLimit}
 use Rattle.rules.specs.Rules.{_then_, must}
-use Rattle.rules.specs.Boxes.{boxes, placesOf, child}
+use Rattle.rules.specs.Boxes.{part, boxes, placesOf, child}
 use Rattle.rules.specs.Header.{versioned}
-use Rattle.rules.specs.Fragment.{trafIn, tfhdIn, tfdtIn, firstRun, runsIn, tfhdSize, runHead, stride, samplesOf, durationsOf, bytesIn, firstFlags, rule14, rule15runs, rule16runs, rule22runs}
+use Rattle.rules.specs.Fragment.{trafIn, tfhdIn, tfdtIn, firstRun, runsIn, shifted, tfhdSize, runHead, stride, samplesOf, durationsOf, bytesIn, firstFlags, rule14, rule15runs, rule16runs, rule22runs}
 use Rattle.rules.specs.declared.Rule.{Rule}
 use Rattle.rules.specs.declared.Rule.the-variants.{Holds, Breaks}
 use Rattle.rules.specs.declared.Defaults.{Defaults}
@@ -44,16 +44,16 @@ abbrev pub saysNone : Bool → List ℕ → ℕ → ℕ → ℕ → ℕ → Type
 saysNone true s at v w x = NoneOf s at v w x
 saysNone false s at v w x = Unit {0}
 
--- the usual layout, with the `tfdt` at t and the run of size c at r: rule 14 holds, where the boxes stand, and that each ends where the
--- next begins
-pub record UsualAt (m : List ℕ) (t r c : ℕ) : Type 0 where
+-- the usual layout, with the `tfdt` at t, the first run of size c at r and the end of the `traf` at e: rule 14 holds, where the boxes
+-- stand, that each ends where the next begins, and that further runs are those behind the first
+pub record UsualAt (m : List ℕ) (t r c e : ℕ) : Type 0 where
   pub counts : (base : ℕ) → rule14 base m ≡ Holds
   pub mfhd : child m 0 mfhd ≡ 8
   pub traf : trafIn m ≡ 24
   pub tfhd : tfhdIn m ≡ 32
   pub tfdt : tfdtIn m ≡ t
   pub first : firstRun m ≡ r
-  pub runs : runsIn m ≡ r ∷ []
+  pub runs : runsIn m ≡ r ∷ shifted 32 (placesOf trun (boxes (part m 32 (e - 32)) (r + c - 32)))
   pub mfhdSize : be4 m 8 ≡ 16
   pub tfhdSize : 32 + be4 m 32 ≡ t
   pub tfdtSize : t + be4 m t ≡ r
@@ -61,12 +61,13 @@ pub record UsualAt (m : List ℕ) (t r c : ℕ) : Type 0 where
   pub low : 48 ≤ t
   pub middle : t + 16 ≤ r
   pub runLow : 16 ≤ c
-  pub high : r + c ≤ length m
+  pub high : r + c ≤ e
+  pub ends : e ≤ length m
   pub small : length m ≤ 4294967295
 
 -- the layout is the usual one; of another nothing is said
 abbrev pub saysUsual : Usual → List ℕ → Type 0
-saysUsual (At t r c) m = UsualAt m t r c
+saysUsual (At t r c e) m = UsualAt m t r c e
 saysUsual Other m = Unit {0}
 
 -- 15 to 17 of `mfhd` and of `tfhd`, whose version and flags are f, before a `tfdt` at t

@@ -6,6 +6,8 @@ ghost use Rattle.rules.specs.Header.{oneOf, someOf};
 ghost use Rattle.rules.specs.Boxes.{boxes, seen, firstOf};
 ghost use Rattle.boxes.specs.Siblings.{secondOf};
 ghost use Rattle.fragment.specs.Counts.{saysCount, saysPlace, saysInMoof, saysInTraf, saysFound, Inside, SawThree};
+ghost use Rattle.fragment.specs.Usual.{saysUsual};
+use crate::usual::Usual;
 use boxes::Next;
 use boxes::kinds::MFHD;
 use boxes::kinds::TFDT;
@@ -175,11 +177,21 @@ fn in_traf(m: &[u8], base: u64, traf: usize) -> InTraf
     }
 }
 
-// Rule 14: the boxes of a fragment.
-pub fn find_boxes(m: &[u8], base: u64) -> Found
+// Rule 14: the boxes of a fragment, with no count of them where the layout is the usual one.
+pub fn find_boxes(m: &[u8], base: u64, layout: Usual) -> Found
     requires { ⌜ (length (now m) ≤ 4294967296) × (base ≤ 4294967296) ⌝ }
+    requires { ⌜ saysUsual layout (now m) ⌝ }
     ensures { λ r. ⌜ saysFound r base (now (m .entry)) ⌝ }
 {
+    if let Usual::At { tfdt, run, .. } = layout {
+        return Found::All(Moof {
+            mfhd: 8,
+            traf: 24,
+            tfhd: 32,
+            tfdt,
+            run,
+        });
+    }
     let outer = in_moof(m, base);
     match outer {
         InMoof::Refused(p) => Found::Refused(p),

@@ -9,6 +9,7 @@ ghost use Rattle.rules.specs.Limits.{sampleLimit};
 ghost use Rattle.rules.specs.Fragment.{shape};
 ghost use Rattle.fragment.specs.Told.{ruleOf};
 ghost use Rattle.fragment.specs.Counts.{Stand};
+ghost use Rattle.fragment.specs.Usual.{saysUsual};
 ghost use Rattle.fragment.specs.Shape.{settled, rules15to18, saysShape};
 use crate::bodies;
 use crate::bodies::Bodies;
@@ -19,6 +20,7 @@ use crate::counts::Moof;
 use crate::runs::Runs;
 use crate::told;
 use crate::told::Told;
+use crate::usual::Usual;
 use rules::Defaults;
 
 // A fragment of good shape: where its boxes stand, its start, and what its runs say.
@@ -104,11 +106,12 @@ fn judge(m: &[u8], base: u64, id: u32, x: Moof, d: Defaults, head: u64) -> Shape
 }
 
 // Rules 14 to 18, with what the runs say by the `trex` defaults and the header length of the `mdat`.
-pub fn shape_of(m: &[u8], base: u64, id: u32, d: Defaults, head: u64) -> Shape
+pub fn shape_of(m: &[u8], base: u64, id: u32, d: Defaults, head: u64, layout: Usual) -> Shape
     requires { ⌜ (length (now m) ≤ 4294967296) × (base ≤ 4294967296) × (head ≤ 16) ⌝ }
+    requires { ⌜ saysUsual layout (now m) ⌝ }
     ensures { λ r. ⌜ saysShape r (shape base (now (m .entry)) id) base (now (m .entry)) d head ⌝ }
 {
-    let found = counts::find_boxes(m, base);
+    let found = counts::find_boxes(m, base, layout);
     match found {
         Found::Refused(place) => Shape::Refused { number: 14, place },
         Found::All(x) => judge(m, base, id, x, d, head),

@@ -1,5 +1,5 @@
-// The usual layout of a fragment, read with no walk over the boxes that the rules name: `moof` begins with `mfhd` and `traf`, and
-// `traf` with `tfhd`, `tfdt` and one `trun`, in this order and with short headers. Behind them stand only boxes of other types.
+// The usual layout of a fragment, whose boxes are found with no search: `moof` begins with `mfhd` and `traf`, and `traf` with `tfhd`,
+// `tfdt` and a `trun`, in this order and with short headers. Behind them stand only further runs and boxes of other types.
 ghost use mathlib.Core.Path.{_≡_};
 ghost use Prim.Native.Nat.{_+_, _-_, _≤_};
 ghost use lib.ListN.{length};
@@ -27,17 +27,18 @@ use rules::Defaults;
 use rules::Header;
 use rules::Look;
 
-// Where the `tfdt` and the run stand in the usual layout and the run's size, or that the layout is another.
+// Where the `tfdt` and the first run stand in the usual layout, that run's size and the `traf`'s end, or that the layout is another.
 pub enum Usual {
     At {
         tfdt: usize,
         run: usize,
         size: usize,
+        end: usize,
     },
     Other,
 }
 
-// The answer of rules 14 to 22 where the layout is the usual one and all but the sums is good, or that it is to be found otherwise.
+// The answer of rules 14 to 22 where the layout is usual, with a single run, and all but the sums is good; or that it is found otherwise.
 pub enum Quick {
     Known(Fragment),
     Other,
@@ -132,13 +133,18 @@ pub fn usual_of(m: &[u8]) -> Usual
     if size == 0 {
         return Usual::Other;
     }
-    if !none_behind(m, 32, run + size, end, TFHD, TFDT, TRUN) {
+    if !none_behind(m, 32, run + size, end, TFHD, TFDT, TFDT) {
         return Usual::Other;
     }
     if !none_behind(m, 8, end, n, MFHD, TRAF, TRAF) {
         return Usual::Other;
     }
-    Usual::At { tfdt, run, size }
+    Usual::At {
+        tfdt,
+        run,
+        size,
+        end,
+    }
 }
 
 // Rules 15 to 17 of `mfhd` and of `tfhd`, whose version and flags are given.
@@ -252,7 +258,7 @@ fn rest(
     Quick::Known(ended(base, run, len, start, payload, sums))
 }
 
-// Rules 14 to 22 where the layout is the usual one.
+// Rules 14 to 22 where the layout is the usual one, with a single run.
 pub fn quick_check(
     m: &[u8],
     base: u64,
@@ -261,14 +267,24 @@ pub fn quick_check(
     h: Header,
     k: u64,
     prev: u64,
+    layout: Usual,
 ) -> Quick
     requires { ⌜ (length (now m) ≤ 4294967296) × (base ≤ 4294967296) × (head ≤ 16) ⌝ }
+    requires { ⌜ saysUsual layout (now m) ⌝ }
     ensures { λ r. ⌜ saysQuick r (shape base (now (m .entry)) (h .id) then timing base (now (m .entry)) (h .defaults) head payload k prev) (now (m .entry)) (h .defaults) ⌝ }
 {
-    let found = usual_of(m);
-    let Usual::At { tfdt, run, size } = found else {
+    let Usual::At {
+        tfdt,
+        run,
+        size,
+        end,
+    } = layout
+    else {
         return Quick::Other;
     };
+    if !none_behind(m, 32, run + size, end, TRUN, TRUN, TRUN) {
+        return Quick::Other;
+    }
     let flags = numbers::near4(m, 40);
     if !heads_fit(m, tfdt, flags, h.id) {
         return Quick::Other;
@@ -280,6 +296,6 @@ pub fn quick_check(
     if !timing::follows(k, start, prev) {
         return Quick::Other;
     }
-    let own = layout::defaults_behind(m, 40, flags, h.defaults);
+    let own = crate::layout::defaults_behind(m, 40, flags, h.defaults);
     rest(m, base, head, payload, own, start, run, size)
 }

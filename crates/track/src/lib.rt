@@ -58,9 +58,9 @@ fn fragment_at(s: &[u8], x: usize, mdat: usize, h: Header, k: u64, prev: u64) ->
     ensures { λ r. ⌜ saysAt r (now (s .entry)) h k prev x ⌝ }
 {
     let moof = &s[x..mdat];
-    let head = fields::head_of(s, mdat) as u64;
-    let size = fields::size_of(s, mdat);
-    fragment::check(moof, x as u64, head, fields::less(size, head), h, k, prev)
+    let d = fields::span_at(s, mdat);
+    let head = d.head as u64;
+    fragment::check(moof, x as u64, head, fields::less(d.size, head), h, k, prev)
 }
 
 // Rules 14 to 22 of n fragments, one by one.

@@ -16,8 +16,8 @@ returns c = let a = c .before .before .before .args in sym (part-past (now (a .s
 returns-2 : tie.Need-returns-2
 unfolding body
 returns-2 c =
-    rw (← c .before .before .before .head-of .ensures .0, ← c .before .before .size-of .ensures, ← c .before .less .ensures)
-    (c .part .ensures)
+    let x = c .before .before .before .span-at .ensures .0 in
+    rw (← x .0, ← x .1, ← c .before .before .less .ensures) (c .part .ensures)
 
 pub body-spec : {M : Type 1} → statement M
 body-spec =
@@ -25,7 +25,6 @@ body-spec =
     (tie.spec
     (λ c. search needs)
     returns
-    (λ c κs. search needs)
     (λ c κs. search needs)
     (λ c κs. search needs)
     (λ c. search needs)

@@ -9,5 +9,4 @@ unfolding shortSize
 returns c = search needs
 
 pub short-size-spec : {M : Type 1} → statement M
-short-size-spec =
-    tie.close (tie.spec (λ c κs. search needs) (λ c κs. search needs) (λ c κs. search needs) (λ c. search needs) returns)
+short-size-spec = tie.close (tie.spec (λ c κs. search needs) (λ c κs. search needs) (λ c. search needs) returns)

@@ -13,14 +13,14 @@ returns c = rw (c .before .quick .given .1) at (c .before .before .before .quick
 time-requires : tie.Need-time-requires
 time-requires c κs =
     let r = rw (c .before .answer2 .given .1) at (c .before .before .before .shape-of .ensures) in
-    (omega (arith, c .before .before .before .before .before .before .before .before .pre, r .1 .runs .ticksLow), r .1 .stand)
+    (omega (arith, c .before .before .before .before .before .before .before .before .before .pre, r .1 .runs .ticksLow), r .1 .stand)
 
 returns-2 : tie.Need-returns-2
 returns-2 c = then-breaks _ (rw (c .before .answer .given .1) at (c .before .before .before .shape-of .ensures))
 
 returns-3 : tie.Need-returns-3
 returns-3 c =
-    let a = c .before .before .before .before .before .before .before .before .before .args in
+    let a = c .before .before .before .before .before .before .before .before .before .before .args in
     let s = c .before .before .answer2 in
     let r = rw (s .given .1) at (c .before .before .before .before .shape-of .ensures) in
     rw (then-holds _ (r .0))
@@ -30,6 +30,7 @@ pub check-spec : {M : Type 1} → statement M
 check-spec =
     tie.close
     (tie.spec
+    (λ c κs. search needs)
     (λ c κs. search needs)
     (λ c. search needs)
     returns

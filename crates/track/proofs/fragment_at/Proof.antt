@@ -7,13 +7,14 @@ use Rattle.track.proofs.fragment_at.Tie as tie
 
 returns : tie.Need-returns
 returns c =
-    let a = c .before .before .before .before .before .before .args in
-    let p = c .before .before .before .before .before .before .pre in
-    placed (c .check .result) (now (a .s)) (a .h) (a .k) (a .prev) (a .x) _ (a .mdat) (c .before .before .before .head-of .result) (c .before .before .size-of .result)
-    (part-whole _ _ _ (p .0))
-    (part-end _ _ _ (p .0) (p .1))
-    (c .before .before .before .head-of .ensures .0)
-    (c .before .before .size-of .ensures)
+    let b = c .before .before .before .before .before in
+    let a = b .args in
+    let d = c .before .before .span-at in
+    placed (c .check .result) (now (a .s)) (a .h) (a .k) (a .prev) (a .x) _ (a .mdat) (d .result .head) (d .result .size)
+    (part-whole _ _ _ (b .pre .0))
+    (part-end _ _ _ (b .pre .0) (b .pre .1))
+    (d .ensures .0 .0)
+    (d .ensures .0 .1)
     (rw (← c .before .less .ensures) (c .check .ensures))
 
 pub fragment-at-spec : {M : Type 1} → statement M
@@ -23,7 +24,6 @@ fragment-at-spec =
     (λ c. search needs)
     (λ c. search needs)
     (λ c. search needs)
-    (λ c κs. search needs)
     (λ c κs. search needs)
     (λ c κs. search needs)
     (λ c κs. search needs)
