@@ -1,4 +1,4 @@
-// The numbers of box types, brands and handlers, each beside its four letters.
+// The numbers of box types, each beside its four letters.
 
 pub const FTYP: u32 = 0x66747970; // ftyp
 
@@ -63,13 +63,3 @@ pub const TFDT: u32 = 0x74666474; // tfdt
 pub const TRUN: u32 = 0x7472756e; // trun
 
 pub const MDAT: u32 = 0x6d646174; // mdat
-
-pub const CMFC: u32 = 0x636d6663; // cmfc
-
-pub const CMF2: u32 = 0x636d6632; // cmf2
-
-pub const VIDE: u32 = 0x76696465; // vide
-
-pub const SOUN: u32 = 0x736f756e; // soun
-
-pub const SUBT: u32 = 0x73756274; // subt

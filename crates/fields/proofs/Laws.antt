@@ -48,10 +48,6 @@ full-by s at h z f eh ez low a b c d e =
     }
 
 -- past the end every number is 0
-pub past3 : (s : List ℕ) (i : ℕ) → length s ≤ i → be3 s i ≡ 0
-unfolding be3
-past3 s i h = omega (arith, past s i h, past s (i + 1) (omega arith), past s (i + 2) (omega arith))
-
 pub past4 : (s : List ℕ) (i : ℕ) → length s ≤ i → be4 s i ≡ 0
 unfolding be4
 past4 s i h =

@@ -2,7 +2,7 @@
 // Every reader is total: what stands past the end of the slice reads as 0.
 ghost use mathlib.Core.Path.{_≡_};
 ghost use Prim.Native.Nat.{_+_, _-_, _<_, _≤_};
-ghost use lib.ListN.{length, take, drop};
+ghost use lib.ListN.{length};
 ghost use Rattle.numbers.specs.Numbers.{be4, be8};
 ghost use Rattle.rules.specs.Boxes.{part, headOf, sizeOf, whole, body};
 ghost use Rattle.rules.specs.Header.{shortSize, version, field, versioned, plain, atLeast};
@@ -43,7 +43,7 @@ fn long_size(s: &[u8], at: usize) -> u64
 }
 
 // As many as n bytes of a slice from a place.
-pub fn part(s: &[u8], a: usize, n: u64) -> &[u8]
+fn part(s: &[u8], a: usize, n: u64) -> &[u8]
     ensures { λ r. ⌜ now r ≡ part (now (s .entry)) a n ⌝ }
 {
     if s.len() <= a {
@@ -156,7 +156,7 @@ pub fn version(s: &[u8], at: usize) -> u8
 }
 
 // The flags of the full box at a place.
-pub fn flags_of(s: &[u8], at: usize) -> u32
+fn flags_of(s: &[u8], at: usize) -> u32
     ensures { λ r. ⌜ r ≡ flagsOf (now (s .entry)) at ⌝ }
     ensures { λ r. ⌜ r < 16777216 ⌝ }
 {

@@ -9,6 +9,7 @@ ghost use Rattle.fragment.specs.Layout.{firstFlagsBehind, placedBehind};
 ghost use Rattle.fragment.specs.Runs.{runsAt, saysTrun, saysSurvey};
 use crate::layout;
 use crate::samples;
+use crate::shape::SAMPLE_LIMIT;
 use crate::told;
 use crate::told::Told;
 use boxes::Next;
@@ -178,7 +179,7 @@ pub fn survey_runs(
         clash = told::also(clash, apart(flags), 16, stands);
         first = first_after(samples, first, count, m, behind, flags, d);
         samples += count as u64;
-        if samples <= 65536 {
+        if samples <= SAMPLE_LIMIT {
             let own = placed_behind(lead, m, behind, flags, from + bytes);
             tiled = told::also(tiled, own, 22, stands);
             let fields = behind + layout::run_head(flags);

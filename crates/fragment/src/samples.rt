@@ -13,21 +13,6 @@ pub struct Sums {
     pub bytes: u64,
 }
 
-// Four bytes as a number.
-fn four(a: u8, b: u8, c: u8, d: u8) -> u64
-    ensures { λ r. ⌜ (r ≡ a * 16777216 + b * 65536 + c * 256 + d) × (r ≤ 4294967295) ⌝ }
-{
-    a as u64 * 16777216 + b as u64 * 65536 + c as u64 * 256 + d as u64
-}
-
-// The number in the four bytes at a place inside the slice.
-fn near(m: &[u8], p: usize) -> u64
-    requires { ⌜ p + 4 ≤ length (now m) ⌝ }
-    ensures { λ r. ⌜ (r ≡ be4 (now (m .entry)) p) × (r ≤ 4294967295) ⌝ }
-{
-    four(m[p], m[p + 1], m[p + 2], m[p + 3])
-}
-
 // The sum of n numbers, a step apart from a place, all inside the slice.
 fn sum_inside(m: &[u8], from: usize, step: usize, n: usize) -> u64
     requires { ⌜ Spaced from step n ⌝ }
@@ -38,7 +23,7 @@ fn sum_inside(m: &[u8], from: usize, step: usize, n: usize) -> u64
     let mut p = from;
     let mut i = 0;
     while i < n {
-        sum += near(m, p);
+        sum += numbers::near4(m, p) as u64;
         p += step;
         i += 1;
     }
@@ -73,8 +58,8 @@ fn pairs_inside(m: &[u8], from: usize, step: usize, n: usize) -> Sums
     let mut p = from;
     let mut i = 0;
     while i < n {
-        ticks += near(m, p);
-        bytes += near(m, p + 4);
+        ticks += numbers::near4(m, p) as u64;
+        bytes += numbers::near4(m, p + 4) as u64;
         p += step;
         i += 1;
     }
@@ -82,7 +67,7 @@ fn pairs_inside(m: &[u8], from: usize, step: usize, n: usize) -> Sums
 }
 
 // The sum of n numbers, a step apart from a place.
-pub fn sum(m: &[u8], from: usize, step: usize, n: usize) -> u64
+fn sum(m: &[u8], from: usize, step: usize, n: usize) -> u64
     requires { ⌜ Spaced from step n ⌝ }
     requires { ⌜ 4 ≤ step ⌝ }
     ensures { λ r. ⌜ Summed (every (now (m .entry)) from step) n r ⌝ }
@@ -95,7 +80,7 @@ pub fn sum(m: &[u8], from: usize, step: usize, n: usize) -> u64
 }
 
 // The two sums of n pairs of numbers, a step apart from a place.
-pub fn sum_pairs(m: &[u8], from: usize, step: usize, n: usize) -> Sums
+fn sum_pairs(m: &[u8], from: usize, step: usize, n: usize) -> Sums
     requires { ⌜ Spaced (from + 4) step n ⌝ }
     requires { ⌜ 8 ≤ step ⌝ }
     ensures { λ r. ⌜ Summed (every (now (m .entry)) from step) n (r .ticks) ⌝ }

@@ -36,6 +36,9 @@ pub enum Shape {
     Refused { number: u64, place: u64 },
 }
 
+// Rule 18: the samples of a fragment.
+pub const SAMPLE_LIMIT: u64 = 65536;
+
 // Rule 16, the flags of `tfhd`: 0x1 and 0x10000 clear, 0x20000 set.
 pub fn flagged(flags: u32) -> bool
     ensures { λ r. ⌜ r ≡ (not (has flags 0x1) && not (has flags 0x10000) && has flags 0x20000) ⌝ }
@@ -56,7 +59,7 @@ fn few(samples: u64) -> bool
     if samples < 1 {
         return false;
     }
-    samples <= 65536
+    samples <= SAMPLE_LIMIT
 }
 
 // Rules 16 to 18, by what the bodies say.

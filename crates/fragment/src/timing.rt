@@ -14,6 +14,9 @@ use crate::shape::Shaped;
 use crate::told;
 use crate::told::Told;
 
+// Rule 20: the last tick, 2^63 - 1.
+const TICK_LIMIT: u64 = 9223372036854775807;
+
 // The fragment's end, or that its duration is 0 or its end over 2^63 - 1.
 pub enum End {
     At(u64),
@@ -38,7 +41,7 @@ pub fn end_at(start: u64, ticks: u64) -> End
     if ticks < 1 {
         return End::Wrong;
     }
-    if 9223372036854775807 - ticks < start {
+    if TICK_LIMIT - ticks < start {
         return End::Wrong;
     }
     End::At(start + ticks)

@@ -10,7 +10,7 @@ pub enum Told {
 }
 
 // The first rule if it breaks, else the second.
-pub fn first_of(a: Told, b: Told) -> Told
+fn first_of(a: Told, b: Told) -> Told
     ensures { λ r. ⌜ ruleOf r ≡ (ruleOf a then ruleOf b) ⌝ }
 {
     let Told::Holds = a else {

@@ -16,6 +16,7 @@ use crate::runs;
 use crate::samples;
 use crate::samples::Sums;
 use crate::shape;
+use crate::shape::SAMPLE_LIMIT;
 use crate::timing;
 use crate::timing::End;
 use boxes::kinds::MFHD;
@@ -196,7 +197,7 @@ fn run_fits(m: &[u8], run: usize, size: usize, flags: u32, count: usize) -> bool
     if count < 1 {
         return false;
     }
-    if 65536 < count {
+    if SAMPLE_LIMIT < count as u64 {
         return false;
     }
     if size != 8 + layout::run_head(flags) + layout::stride(flags) * count {

@@ -15,7 +15,7 @@ use rules::Path;
 use rules::Verdict;
 
 // Rule 1: the bytes of a slice.
-const BYTE_LIMIT: usize = 1073741824;
+pub const BYTE_LIMIT: usize = 1073741824;
 
 // Rule 5: the boxes of a slice.
 const BOX_LIMIT: usize = 4096;

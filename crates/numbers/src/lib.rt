@@ -1,4 +1,5 @@
-// Big-endian numbers at any place of a slice. Every reader is total: a byte past the end reads as 0.
+// Big-endian numbers at a place of a slice. `be2` to `be8` are total: a byte past the end reads as 0; `near3` to `near8` ask for a
+// place inside.
 ghost use mathlib.Core.Path.{_≡_};
 ghost use Prim.Native.Nat.{_+_, _*_, _<_, _≤_};
 ghost use lib.ListN.{length};

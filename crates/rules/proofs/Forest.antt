@@ -234,22 +234,3 @@ module _ (s : List ℕ) (at : ℕ) where
   pub seen-end : (v : Seen) (w : ℕ) → boxes s at ≡ [] → seenFrom v w (boxes s at) ≡ v
   unfolding seenFrom
   seen-end v w = ap (seenFrom v w)
-
--- the boxes at the top of a forest are the sibling boxes, on any path
-tops-grow : (f : ℕ) (p q : Path) (s : List ℕ) (at : ℕ) → tops (grow f p s at) ≡ tops (grow f q s at)
-unfolding grow tops
-tops-grow zero p q s at = refl
-tops-grow (suc f) p q s at = by (look s at) (tops-grow f p q s)
-  where
-    by :
-        (l : Look) → ((n : ℕ) → tops (grow f p s n) ≡ tops (grow f q s n)) →
-        tops (sprout (λ r t. grow f r t 0) (grow f p s) p s at l) ≡ tops (sprout (λ r t. grow f r t 0) (grow f q s) q s at l)
-    by Nothing i = refl
-    by Short i = refl
-    by Small i = refl
-    by Beyond i = refl
-    by (Header h z k) i = ap (λ (xs : List Box). record { at = at; head = h; size = z; kind = k } ∷ xs) (i (at + z))
-
-pub tops-boxes : (p : Path) (s : List ℕ) (at : ℕ) → tops (forest p s at) ≡ boxes s at
-unfolding forest boxes
-tops-boxes p s at = tops-grow (length s - at) p Flat s at

@@ -1,7 +1,6 @@
 // Rules 25 to 28: a track beside track 0.
 ghost use mathlib.Core.Path.{_≡_};
 ghost use Prim.Native.Nat.{_≤_};
-ghost use lib.ListN.{length};
 ghost use Rattle.rules.specs.Track.{fragmentCount};
 ghost use Rattle.rules.specs.Set.{rule28, agrees};
 ghost use Rattle.rules.specs.declared.Rule.the-variants.{Breaks};

@@ -8,12 +8,12 @@ ghost use Rattle.rules.specs.Bundle.{rule24, tracks};
 ghost use Rattle.rules.specs.Set.{agrees, setOutcome};
 ghost use Rattle.rules.specs.declared.Rule.the-variants.{Holds};
 ghost use Rattle.track.specs.Says.{Known};
-ghost use Rattle.set.specs.Says.{restOf, allOf};
+ghost use Rattle.set.specs.Says.{allOf};
 use bundle::Bundled;
+use framing::BYTE_LIMIT;
 use rules::Mark;
 use rules::Rule;
 use rules::Verdict;
-use track::BYTE_LIMIT;
 use track::Facts;
 use track::Judged;
 

@@ -6,7 +6,6 @@ ghost use lib.ListN.{length, drop};
 ghost use Rattle.rules.specs.Limits.{byteLimit};
 ghost use Rattle.rules.specs.Rules.{_then_};
 ghost use Rattle.rules.specs.Boxes.{sizeOf};
-ghost use Rattle.rules.specs.Framing.{rules2to5};
 ghost use Rattle.rules.specs.Order.{rule6};
 ghost use Rattle.rules.specs.Track.{moovAt, headerOf, fragments, fragmentCount, rules14to22, rulesOfHeader, ruling, timescale, boundaries, roomFor, trackOutcome};
 ghost use Rattle.track.specs.Says.{lastEnd, saysAt, saysWalk, headed, Known, saysJudged};
@@ -14,15 +13,13 @@ use boxes::Next;
 use boxes::kinds::MOOF;
 use boxes::kinds::MOOV;
 use fragment::Fragment;
+use framing::BYTE_LIMIT;
 use header::Headed;
 use rules::Framing;
 use rules::Header;
 use rules::Verdict;
 
 pub mod order;
-
-// Rule 1: the bytes of a slice.
-pub const BYTE_LIMIT: usize = 1073741824;
 
 // What is known of an accepted track: the places of `hdlr` and `mdhd` in it, and the last fragment's end.
 pub struct Facts {
@@ -192,7 +189,7 @@ pub fn refused(number: u64, track: u64, place: u64) -> Verdict
 }
 
 // The boundaries of an accepted track of n fragments: each start, and the last end, at the front of the table.
-pub fn write_boundaries(s: &[u8], last: u64, n: usize, t: &mut [u64])
+fn write_boundaries(s: &[u8], last: u64, n: usize, t: &mut [u64])
     requires { ⌜ (last ≡ lastEnd (now s)) × (1 ≤ fragmentCount (now s)) × (fragmentCount (now s) + 1 ≤ length (now t)) ⌝ }
     requires { ⌜ n ≡ fragmentCount (now s) ⌝ }
     ensures { λ _. ⌜ now (t .exit) ≡ boundaries (now (s .entry)) ++ drop (length (boundaries (now (s .entry)))) (now (t .entry)) ⌝ }

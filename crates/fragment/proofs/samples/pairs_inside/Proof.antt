@@ -3,6 +3,7 @@ use mathlib.Core.Path.{_≡_}
 use Prim.Native.Nat.{_+_, _*_, _-_, _≤_}
 use native.Mathlib.Omega.{arith}
 use lib.ListN.{length}
+use borrow.Author.Needs.{needs}
 use denote.Ref.{now}
 use Rattle.fragment.specs.Samples.{every, Summed}
 use Rattle.fragment.proofs.Sums.{step-inside, step-none, step-on, step-low, summed-none, summed-at, summed-end}
@@ -25,18 +26,18 @@ loop-holds c =
       summed-none (every (now (a .m)) (a .from + 4) (a .step)),
     )
 
-near-requires : tie.Need-near-requires Inv-loop μ-loop
-near-requires c κs =
+near4-requires : tie.Need-near4-requires Inv-loop μ-loop
+near4-requires c κs =
     let a = c .before .before .before .args in
     omega (arith, step-inside (a .from) (a .step) (a .n) (c .before .loop .i) (length (now (a .m))) (c .loop-test .taken) (c .before .before .before .pre .1 .1))
 
-add-near : tie.Need-add-near Inv-loop μ-loop
-add-near c =
+add-near4 : tie.Need-add-near4 Inv-loop μ-loop
+add-near4 c =
     let s = c .before .before .before .before in
     omega (arith, s .pre .0, step-low (s .pre .0) (c .before .before .loop .i) (c .before .before .loop .inv .0))
 
-near-requires-2 : tie.Need-near-requires-2 Inv-loop μ-loop
-near-requires-2 c κs =
+near4-requires-2 : tie.Need-near4-requires-2 Inv-loop μ-loop
+near4-requires-2 c κs =
     let a = c .before .before .before .before .args in
     omega (arith, step-inside (a .from) (a .step) (a .n) (c .before .before .loop .i) (length (now (a .m))) (c .before .loop-test .taken) (c .before .before .before .before .pre .1 .1))
 
@@ -49,11 +50,11 @@ loop-again : tie.Need-loop-again Inv-loop μ-loop
 loop-again c =
     let a = c .before .before .before .before .before .args in
     let l = c .before .before .before .loop in
-    let x = c .before .near in (
+    let x = c .before .near4 in (
       omega arith,
       step-on (a .from) (a .step) (l .i) (l .p) (l .inv .1),
-      summed-at (now (a .m)) (a .from) (a .step) (l .i) (l .ticks) (l .p) (x .result) (l .inv .2) (l .inv .1) (x .ensures .0) (x .ensures .1),
-      summed-at (now (a .m)) (a .from + 4) (a .step) (l .i) (l .bytes) (l .p + 4) (c .near2 .result) (l .inv .3) (omega (arith, l .inv .1)) (c .near2 .ensures .0) (c .near2 .ensures .1),
+      summed-at (now (a .m)) (a .from) (a .step) (l .i) (l .ticks) (l .p) (x .result) (l .inv .2) (l .inv .1) (x .ensures) (omega (arith, x .ok)),
+      summed-at (now (a .m)) (a .from + 4) (a .step) (l .i) (l .bytes) (l .p + 4) (c .near42 .result) (l .inv .3) (omega (arith, l .inv .1)) (c .near42 .ensures) (omega (arith, c .near42 .ok)),
     )
 
 returns : tie.Need-returns Inv-loop μ-loop
@@ -71,10 +72,12 @@ pairs-inside-spec =
     Inv-loop
     μ-loop
     loop-holds
-    near-requires
+    near4-requires
+    (λ c. search needs)
     (λ c. omega arith)
-    add-near
-    near-requires-2
+    add-near4
+    near4-requires-2
+    (λ c. search needs)
     (λ c. omega arith)
     add-p
     (λ c. omega arith)

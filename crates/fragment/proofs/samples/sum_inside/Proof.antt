@@ -3,6 +3,7 @@ use mathlib.Core.Path.{_≡_}
 use Prim.Native.Nat.{_+_, _*_, _-_, _≤_}
 use native.Mathlib.Omega.{arith}
 use lib.ListN.{length}
+use borrow.Author.Needs.{needs}
 use denote.Ref.{now}
 use Rattle.fragment.specs.Samples.{every, Summed}
 use Rattle.fragment.proofs.Sums.{step-inside, step-none, step-on, step-low, summed-none, summed-at, summed-end}
@@ -20,8 +21,8 @@ loop-holds c =
     let a = c .before .args in
     (omega arith, step-none (a .from) (a .step), summed-none (every (now (a .m)) (a .from) (a .step)))
 
-near-requires : tie.Need-near-requires Inv-loop μ-loop
-near-requires c κs =
+near4-requires : tie.Need-near4-requires Inv-loop μ-loop
+near4-requires c κs =
     let a = c .before .before .before .args in
     omega (arith, step-inside (a .from) (a .step) (a .n) (c .before .loop .i) (length (now (a .m))) (c .loop-test .taken) (c .before .before .before .pre .1 .1))
 
@@ -36,7 +37,7 @@ loop-again c =
     let l = c .before .before .loop in (
       omega arith,
       step-on (a .from) (a .step) (l .i) (l .p) (l .inv .1),
-      summed-at (now (a .m)) (a .from) (a .step) (l .i) (l .sum) (l .p) (c .near .result) (l .inv .2) (l .inv .1) (c .near .ensures .0) (c .near .ensures .1),
+      summed-at (now (a .m)) (a .from) (a .step) (l .i) (l .sum) (l .p) (c .near4 .result) (l .inv .2) (l .inv .1) (c .near4 .ensures) (omega (arith, c .near4 .ok)),
     )
 
 returns : tie.Need-returns Inv-loop μ-loop
@@ -52,7 +53,8 @@ sum-inside-spec =
     Inv-loop
     μ-loop
     loop-holds
-    near-requires
+    near4-requires
+    (λ c. search needs)
     (λ c. omega arith)
     add-p
     (λ c. omega arith)
