@@ -1,17 +1,19 @@
 # What can be made here. All of it needs the Rattle kit (rt on the PATH), and:
 #   check      proves every crate and runs the programs
 #   test       the gate: everything from nothing
-#   ground     the gate of the ground alone: numbers, the written rules, their must-fail edits
+#   ground     the ground alone: numbers, the written rules and their examples proved, their must-fail edits refused
 #   fmt        lays out the Rattle and the Rust sources                   (cargo)
 #   trials     the proved code against the Rust reference, CASES a job    (cargo, gcc)
 #   stack      every exported function on its worst inputs in 64 KiB      (cargo, gcc; x86-64)
 #   bench      time beside the Rust reference                             (cargo, gcc; x86-64)
+#   fuzz       the exported functions against the reference, SECONDS long (clang-14, cargo; see rust/fuzz)
 #   c-example  a C program against the header and the archive             (a C compiler for x86-64)
 #   samples    the stored tracks of real encoders, good and damaged       (python3)
 #   vectors    writes the gate's cases anew: the reference's, the samples', the fuzzer's (cargo, python3)
 
 CASES ?= 100000
 SEED ?= 1
+SECONDS ?= 3600
 
 MACHINE := $(shell uname -m)
 SOURCES := crates.txt $(shell find crates -name '*.rt' -o -name '*.antt')
@@ -26,7 +28,7 @@ LINKED := yes
 NEEDED := $(ARCHIVE)
 endif
 
-.PHONY: check test ground fmt trials stack bench c-example samples vectors
+.PHONY: check test ground fmt trials stack bench fuzz c-example samples vectors
 
 check:
 	rt check
@@ -35,8 +37,8 @@ test:
 	bash .ci/run
 
 ground:
-	rm -rf target
-	rt must-fail rules
+	rt fmt --check
+	rt must-fail numbers rules
 
 fmt:
 	rt fmt
@@ -77,6 +79,9 @@ c-example: $(ARCHIVE)
 	        "(Debian: gcc-x86-64-linux-gnu; another one: make c-example X86_CC=NAME)" >&2; exit 1; }
 	$(X86_CC) -std=c99 -O2 -Wall -Wextra -Werror -Iinclude c/example.c $(ARCHIVE) -o target/c-example
 	$(X86_RUN) target/c-example
+
+fuzz:
+	rust/fuzz/run fuzz $(SECONDS)
 
 samples:
 	samples/check ./intake
