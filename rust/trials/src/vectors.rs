@@ -7,8 +7,8 @@ use maker::cases::{Case, Job};
 use maker::examples::examples;
 use std::collections::BTreeMap;
 
-/// What all cases together may take, so that the three files stay below 500 KB.
-const BUDGET: usize = 464_000;
+/// What all cases together may take, so that the three files stay below 850 KB.
+const BUDGET: usize = 789_000;
 /// Of the examples longer than `--max`, only so many find room.
 const LONG_EXAMPLES: usize = 4;
 /// For each job, the share in a hundred of what the examples leave, and the longest drawn case.

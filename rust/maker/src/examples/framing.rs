@@ -22,6 +22,46 @@ impl List {
         self.track("7 bytes after free", [short(8), vec![0; 7]].concat(), 2, 8);
     }
 
+    /// Sizes around the length of a header, and T cut at every byte.
+    pub fn cut(&mut self) {
+        for size in 0..18 {
+            let (number, place) = match size {
+                ..8 => (3, 0),
+                8..11 => (3, size),
+                _ => (2, size),
+            };
+            let bytes = [short(size), vec![0; 10]].concat();
+            self.index(&format!("18 bytes, size {size}"), bytes, number, place.into());
+        }
+        for size in 0..18 {
+            let (number, place) = if size < 16 { (3, 0) } else { (2, size) };
+            let bytes = [long(size), vec![0; 2]].concat();
+            self.index(&format!("18 bytes, long size {size}"), bytes, number, place);
+        }
+        self.index("18 bytes, the largest size", [short(u32::MAX), vec![0; 10]].concat(), 4, 0);
+        self.index("18 bytes, the largest long size", [long(u64::MAX), vec![0; 2]].concat(), 4, 0);
+
+        let boxes = track_t();
+        let bytes = node::bytes(&boxes);
+        let mut start = 0;
+        for (nth, cut) in boxes.iter().enumerate() {
+            for left in 0..cut.size() {
+                let expected = match left {
+                    0 => Answer::listed(node::rows(&boxes[..nth])),
+                    1..8 => Answer::refused(2, start as u64),
+                    _ => Answer::refused(4, start as u64),
+                };
+                let kept = start + left;
+                self.add(&format!("T cut at {kept}"), Job::Index, bytes[..kept].to_vec(), expected);
+            }
+            start += cut.size();
+        }
+    }
+
+    fn index(&mut self, name: &str, bytes: Vec<u8>, number: u64, place: u64) {
+        self.add(name, Job::Index, bytes, Answer::refused(number, place));
+    }
+
     /// Rule 6.
     pub fn order(&mut self) {
         let free = || Node::leaf(b"free", vec![]);

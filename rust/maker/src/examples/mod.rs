@@ -19,6 +19,7 @@ pub struct Example {
 pub fn examples() -> Vec<Example> {
     let mut list = List(Vec::new());
     list.smallest();
+    list.cut();
     list.track_t();
     list.order();
     list.header();
