@@ -4,16 +4,18 @@ use mathlib.Core.List.{List, []}
 use mathlib.Core.Logic.{⊎-elim}
 use Prim.Native.Nat.{ℕ, _+_, _-_, _<_, _≤_}
 use native.Mathlib.Omega.{arith}
-use lib.ListN.{length, take, drop, drop-of-length-le, length-drop}
-use lib.Seq.{take-nil, take-all}
+use lib.ListN.{length, take, drop, drop-of-length-le, length-take, length-drop}
+use lib.Seq.{take-nil, take-all, take-length, take-add, drop-at}
 use borrow.Author.Tests.{eq-eqb, ne-eqb}
 use Rattle.numbers.specs.Numbers.{byte, be2, be3, be4, be8}
 use Rattle.numbers.proofs.Bounds.{past, Reads}
-use Rattle.rules.specs.Boxes.{part, headOf, sizeOf}
+use Rattle.rules.specs.Boxes.{part, headOf, sizeOf, body}
 use Rattle.rules.specs.Header.{shortSize, version}
 use Rattle.rules.specs.Fragment.{flagsOf}
 use Rattle.fields.specs.Behind.{Behind}
+use Rattle.fields.specs.Extent.{ExtentAt}
 use Rattle.fields.specs.Full.{FullAt}
+use Rattle.fields.specs.declared.Extent.{Extent}
 use Rattle.fields.specs.declared.Full.{Full}
 
 -- size 1: the header is 16 bytes, and an 8-byte size follows the type
@@ -63,6 +65,26 @@ part-past s a n h = rw (drop-of-length-le s h) (take-nil n)
 
 pub part-all : (s : List ℕ) (a n : ℕ) → length s - a ≤ n → part s a n ≡ drop a s
 part-all s a n h = take-all n (drop a s) (rw length-drop h)
+
+-- a part by its end: inside the slice, and at the slice's own
+pub part-front : (s : List ℕ) (a n : ℕ) → a + n ≤ length s → drop a (take (a + n) s) ≡ part s a n
+part-front s a n h = rw take-add (drop-at (take a s) (take n (drop a s)) a (simp length-take (omega arith)))
+
+pub part-end : (s : List ℕ) (a n : ℕ) → length s - a ≤ n → drop a (take (length s) s) ≡ part s a n
+part-end s a n h = rw take-length (sym (part-all s a n h))
+
+-- where the bytes of a box stand, by its header's length and its size
+pub extent-by : (s : List ℕ) (at h z : ℕ) (e : Extent) → h ≡ headOf s at → z ≡ sizeOf s at → (8 ≤ h) × (h ≤ 16) → e .from ≡ at + h
+    → e .end ≤ length s → drop (at + h) (take (e .end) s) ≡ part s (at + h) (z - h) → ExtentAt s at e
+unfolding body
+extent-by s at h z e eh ez low f end b =
+    record {
+      from = rw (← eh) f;
+      after = omega arith;
+      low = omega arith;
+      end = end;
+      bytes = rw (f, ← eh, ← ez) b;
+    }
 
 -- what a number read is not
 pub other : {x y n : ℕ} → x ≡ y → (x ≡ n → ⊥) → y ≡ n → ⊥

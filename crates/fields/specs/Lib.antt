@@ -1,2 +1,3 @@
 pub mod Behind
+pub mod Extent
 pub mod Full

@@ -9,6 +9,7 @@ ghost use Rattle.rules.specs.Header.{shortSize, version, field, versioned, plai
 ghost use Rattle.rules.specs.Fragment.{flagsOf};
 ghost use Rattle.fields.specs.Behind.{Behind};
 ghost use Rattle.fields.specs.Full.{FullAt};
+ghost use Rattle.fields.specs.Extent.{ExtentAt};
 
 // The header length of the box at a place.
 pub fn head_of(s: &[u8], at: usize) -> usize
@@ -109,6 +110,32 @@ pub fn body(s: &[u8], at: usize) -> &[u8]
     let payload = less(x.size, x.head as u64);
     let a = at + x.head;
     part(s, a, payload)
+}
+
+// Where the bytes that a box holds begin, and where they end in the slice.
+pub struct Extent {
+    pub from: usize,
+    pub end: usize,
+}
+
+// The place behind the header of the box at a place, and the end of its bytes.
+pub fn inner(s: &[u8], at: usize) -> Extent
+    requires { ⌜ at ≤ 17179869184 ⌝ }
+    ensures { λ r. ⌜ ExtentAt (now (s .entry)) at r ⌝ }
+{
+    let x = span_at(s, at);
+    let from = at + x.head;
+    if s.len() <= from {
+        return Extent { from, end: s.len() };
+    }
+    let payload = less(x.size, x.head as u64);
+    if payload < (s.len() - from) as u64 {
+        return Extent {
+            from,
+            end: from + payload as usize,
+        };
+    }
+    Extent { from, end: s.len() }
 }
 
 // What is left of a number, 0 where the other is larger.

@@ -101,20 +101,14 @@ begins s k zero at h = begins-by s k at (look s at) refl (λ z a b. absurd (omeg
 begins s k (suc f) at h = begins-by s k at (look s at) refl (λ z a b. begins s k f (at + z) (omega (arith, h, a, b)))
 
 -- a walk over the boxes of a type may begin at the first of them
-pub record Skips (s : List ℕ) (w first : ℕ) : Type 0 where
-  pub places : placesOf w (boxes s 0) ≡ placesOf w (boxes s first)
-  pub within : first ≤ length s
-
-pub skips : (s : List ℕ) (w : ℕ) → 0 < w → Skips s w (firstOf (seen w (boxes s 0)))
+pub skips : (s : List ℕ) (w : ℕ) → 0 < w → placesOf w (boxes s 0) ≡ placesOf w (boxes s (firstOf (seen w (boxes s 0))))
 skips s w h =
-    let by : Begins s 0 w → Skips s w (firstOf (seen w (boxes s 0)))
+    let by : Begins s 0 w → placesOf w (boxes s 0) ≡ placesOf w (boxes s (firstOf (seen w (boxes s 0))))
     = elim [
-      | none e ↦ rw (← none-is s w h e) (record { places = refl; within = omega arith })
+      | none e ↦ ap (λ (p : ℕ). placesOf w (boxes s p)) (none-is s w h e)
       | some {p} {q} c ↦
-          rw (← first-is s w h (c .places))
-          (record {
-            places = c .places ∙ sym (places-hit s p _ _ w (c .header) ∙ ap (λ (y : ℕ). p ∷ placesOf w (boxes s y)) (sym (c .size)));
-            within = omega (arith, c .past, c .inner);
-          })
+          c .places
+          ∙ sym (places-hit s p _ _ w (c .header) ∙ ap (λ (y : ℕ). p ∷ placesOf w (boxes s y)) (sym (c .size)))
+          ∙ ap (λ (y : ℕ). placesOf w (boxes s y)) (first-is s w h (c .places))
     ] in
     by (begins s w (length s) 0 (omega arith))

@@ -2,10 +2,8 @@ pub mod Counted
 pub mod First
 pub mod Flags
 pub mod Judged
-pub mod Quickly
-pub mod Short
+pub mod Sized
 pub mod Standing
 pub mod Sums
 pub mod Tile
-pub mod Usually
 pub mod Walk

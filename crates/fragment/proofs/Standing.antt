@@ -1,22 +1,23 @@
 -- Laws of where a fragment's boxes stand: the rules over those places are the rules over the `moof`.
 use mathlib.Core.Path.{_≡_, refl, sym, ap, _∙_}
 use mathlib.Core.List.{List}
-use Prim.Native.Nat.{ℕ, _+_, _-_, _≤_}
+use Prim.Native.Nat.{ℕ, _+_, _≤_}
 use native.Mathlib.Omega.{arith}
-use lib.ListN.{length}
+use lib.ListN.{drop}
 use Rattle.rules.specs.Kinds.{traf, tfhd, tfdt, trun}
 use Rattle.rules.specs.Rules.{_then_, must}
-use Rattle.rules.specs.Boxes.{body, boxes, kids, child, seen, firstOf, headOf}
+use Rattle.rules.specs.Boxes.{body, boxes, kids, child, seen, firstOf, headOf, placesOf}
 use Rattle.rules.specs.Header.{field, versioned, plain}
 use Rattle.rules.specs.Fragment.{trafIn, tfhdIn, tfdtIn, firstRun, runsIn, shifted, flagsOf, tfhdSize, rule14, rule15, rule15runs, startOf, defaultsIn}
 use Rattle.rules.specs.declared.Defaults.{Defaults}
 use Rattle.rules.proofs.Then.{then-assoc}
+use Rattle.boxes.proofs.Moved.{boxes-drop, places-moved}
 use Rattle.fragment.specs.Bodies.{timeAt}
 use Rattle.fragment.specs.Counts.{rule14moof, rule14traf, Stand}
 use Rattle.fragment.specs.Layout.{defaultsFrom, defaultsBehind, defaultsAt}
 use Rattle.fragment.specs.Runs.{runsAt}
 use Rattle.fragment.specs.declared.counts.Moof.{Moof}
-use Rattle.fragment.proofs.First.{Skips, skips}
+use Rattle.fragment.proofs.First.{skips}
 
 -- rule 14 in `moof`, then in its `traf`
 pub rule14-is : (base : ℕ) (m : List ℕ) (t : ℕ) → t ≡ trafIn m → rule14 base m ≡ (rule14moof base m then rule14traf base m t)
@@ -27,12 +28,6 @@ rule14-is base m t e = rw e (sym (then-assoc _ _ _))
 pub start-is : (m : List ℕ) → timeAt m (tfdtIn m) ≡ startOf m
 unfolding timeAt startOf
 start-is m = refl
-
--- the runs of a fragment begin at the first, in the body of `traf`
-pub record From (m b : List ℕ) (shift run : ℕ) : Type 0 where
-  pub after : shift ≤ run
-  pub within : run - shift ≤ length b
-  pub runs : runsAt b shift (run - shift) ≡ runsIn m
 
 module _ (m : List ℕ) (x : Moof) (st : Stand m x) where
   pub tfhd-is : x .tfhd ≡ tfhdIn m
@@ -49,23 +44,23 @@ module _ (m : List ℕ) (x : Moof) (st : Stand m x) where
   unfolding defaultsAt defaultsBehind defaultsFrom defaultsIn field
   defaults-are d = rw tfhd-is
 
-  -- the runs in the body of `traf`
-  runs-are : (b : List ℕ) (shift : ℕ) → b ≡ body m (x .traf) → shift ≡ x .traf + headOf m (x .traf) → runsAt b shift 0 ≡ runsIn m
-  unfolding runsAt runsIn kids
-  runs-are b shift e f = rw (e, f, st .traf .is)
+  -- the first run stands behind the header of `traf`
+  pub run-after : (from : ℕ) → from ≡ x .traf + headOf m (x .traf) → from ≤ x .run
+  unfolding child
+  run-after from f = omega (arith, st .run .is, f)
 
-  -- they begin at the first
-  pub runs-from : (b : List ℕ) (shift : ℕ) → b ≡ body m (x .traf) → shift ≡ x .traf + headOf m (x .traf) → From m b shift (x .run)
-  unfolding runsAt child kids
-  runs-from b shift e f =
-      let k : Skips b trun (firstOf (seen trun (boxes b 0))) = skips b trun (omega arith) in
-      let place : x .run ≡ shift + firstOf (seen trun (boxes b 0)) = st .run .is ∙ rw (e, f) in
-      let first : x .run - shift ≡ firstOf (seen trun (boxes b 0)) = omega (arith, place) in
-      record {
-        after = omega (arith, place);
-        within = omega (arith, first, k .within);
-        runs = ap (runsAt b shift) first ∙ ap (shifted shift) (sym (k .places)) ∙ runs-are b shift e f;
-      }
+  -- the runs of a front of `moof` that ends with the `traf` are those of the fragment, from the first on
+  pub runs-from : (s : List ℕ) (from : ℕ) → drop from s ≡ body m (x .traf) → from ≡ x .traf + headOf m (x .traf) → runsAt s (x .run) ≡ runsIn m
+  unfolding runsAt runsIn child kids
+  runs-from s from e f =
+      let b = body m (x .traf) in
+      let first = firstOf (seen trun (boxes b 0)) in
+      ap (λ (y : ℕ). placesOf trun (boxes s y)) (st .run .is ∙ ap (λ (y : ℕ). y + first) (sym f))
+      ∙ ap (placesOf trun) (boxes-drop from s first)
+      ∙ places-moved from trun (boxes (drop from s) first)
+      ∙ ap (λ (t : List ℕ). shifted from (placesOf trun (boxes t first))) e
+      ∙ ap (shifted from) (sym (skips b trun (omega arith)))
+      ∙ rw (f, st .traf .is)
 
   pub rule15-is :
       (base : ℕ) (rs : List ℕ) → rs ≡ runsIn m →

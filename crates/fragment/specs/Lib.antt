@@ -5,5 +5,3 @@ pub mod Runs
 pub mod Samples
 pub mod Shape
 pub mod Timing
-pub mod Told
-pub mod Usual

@@ -3,21 +3,37 @@ use Prim.Native.Nat.{ℕ, _+_, _≤_}
 use mathlib.Core.Path.{_≡_}
 use mathlib.Core.List.{List}
 use mathlib.Core.Bool.{true, false}
+use lib.ListN.{length}
+use lib.Dec.{eqb}
+use Rattle.numbers.specs.Numbers.{when}
 use Rattle.rules.specs.Kinds.{trun}
-use Rattle.rules.specs.Boxes.{boxes, headOf, placesOf}
-use Rattle.rules.specs.Fragment.{shifted, flagsOf, countOf, runSized, rule15runs, rule16runs, samplesOf, durationsOf, bytesIn, firstFlags, rule22runs}
+use Rattle.rules.specs.Boxes.{boxes, headOf, sizeOf, placesOf}
+use Rattle.rules.specs.Fragment.{flagsOf, countOf, runSized, rule15runs, rule16runs, samplesOf, durationsOf, bytesIn, firstFlags, rule22runs}
+use Rattle.rules.specs.declared.Rule.{Rule}
 use Rattle.rules.specs.declared.Rule.the-variants.{Holds, Breaks}
 use Rattle.rules.specs.declared.Defaults.{Defaults}
-use Rattle.fragment.specs.Told.{ruleOf}
 use Rattle.fragment.specs.declared.runs.Trun.{Trun}
 use Rattle.fragment.specs.declared.runs.Trun.the-variants.{Run, Wrong}
 use Rattle.fragment.specs.declared.runs.Survey.{Survey}
 use Rattle.fragment.specs.declared.runs.Survey.the-variants.{All, Missized}
 use Rattle.fragment.specs.declared.runs.Runs.{Runs}
 
--- the places of the runs in a body from a place on, shifted by where the body stands
-unfoldable pub runsAt : List ℕ → ℕ → ℕ → List ℕ
-runsAt b shift at = shifted shift (placesOf trun (boxes b at))
+-- the places of the runs in a slice from a place on
+unfoldable pub runsAt : List ℕ → ℕ → List ℕ
+runsAt s at = placesOf trun (boxes s at)
+
+-- rule n, by the first place where it breaks, 0 where there is none; a fragment knows no track number, so it is 0
+unfoldable pub ruleAt : ℕ → ℕ → Rule
+ruleAt n p = when (eqb p 0) Holds (Breaks n 0 p)
+
+-- the box at a place has a header of h bytes and the size z, and ends in the slice
+pub record Framed (m : List ℕ) (at h z : ℕ) : Type 0 where
+  pub head : headOf m at ≡ h
+  pub size : sizeOf m at ≡ z
+  pub low : 8 ≤ h
+  pub high : h ≤ 16
+  pub holds : h ≤ z
+  pub fits : at + z ≤ length m
 
 -- a run is sized by its flags and its count, and its header ends at a place; or it is not
 abbrev pub saysTrun : Trun → List ℕ → ℕ → Type 0
@@ -29,13 +45,13 @@ pub record Tiles (base : ℕ) (m : List ℕ) (d : Defaults) (from : ℕ) (rs : L
   pub ticks : r .ticks ≡ durationsOf m d rs
   pub bytes : r .bytes ≡ bytesIn m d rs
   pub first : r .first ≡ firstFlags m d rs
-  pub tiled : ruleOf (r .tiled) ≡ rule22runs base m d true from rs
+  pub tiled : ruleAt 22 (r .tiled) ≡ rule22runs base m d true from rs
   pub ticksLow : r .ticks ≤ 281474976645120
   pub bytesLow : r .bytes ≤ 281474976645120
 
 -- what rule 16 says of all runs and their samples in all; where these are few, the rest
 pub record Surveys (base : ℕ) (m : List ℕ) (d : Defaults) (from : ℕ) (rs : List ℕ) (r : Runs) : Type 0 where
-  pub clash : ruleOf (r .clash) ≡ rule16runs base m rs
+  pub clash : ruleAt 16 (r .clash) ≡ rule16runs base m rs
   pub samples : r .samples ≡ samplesOf m rs
   pub tiles : samplesOf m rs ≤ 65536 → Tiles base m d from rs r
 

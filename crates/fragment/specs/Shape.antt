@@ -12,18 +12,24 @@ use Rattle.rules.specs.Fragment.{runsIn, rule15, rule16, rule17, rule18, startO
 use Rattle.rules.specs.declared.Rule.{Rule}
 use Rattle.rules.specs.declared.Rule.the-variants.{Holds, Breaks}
 use Rattle.rules.specs.declared.Defaults.{Defaults}
-use Rattle.fragment.specs.Told.{ruleOf}
 use Rattle.fragment.specs.Counts.{Stand}
-use Rattle.fragment.specs.Runs.{Tiles}
+use Rattle.fragment.specs.Runs.{ruleAt, Tiles}
 use Rattle.fragment.specs.declared.bodies.Body.{Body}
+use Rattle.fragment.specs.declared.shape.Told.{Told}
+use Rattle.fragment.specs.declared.shape.Told.the-variants.{Holds as toldHolds, Breaks as toldBreaks}
 use Rattle.fragment.specs.declared.shape.Shaped.{Shaped}
 use Rattle.fragment.specs.declared.shape.Shape.{Shape}
 use Rattle.fragment.specs.declared.shape.Shape.the-variants.{Good, Refused}
 
+-- the rule that an answer states
+abbrev pub ruleOf : Told → Rule
+ruleOf toldHolds = Holds
+ruleOf (toldBreaks n p) = Breaks n 0 p
+
 -- 16 to 18, by what the bodies say, with the places of `tfhd` and `traf`
 unfoldable pub settled : ℕ → ℕ → ℕ → ℕ → Body → Rule
 settled base id tfhd traf k =
-    (must (not (has (k .flags) 0x1) && not (has (k .flags) 0x10000) && has (k .flags) 0x20000) 16 (base + tfhd) then ruleOf (k .runs .clash))
+    (must (not (has (k .flags) 0x1) && not (has (k .flags) 0x10000) && has (k .flags) 0x20000) 16 (base + tfhd) then ruleAt 16 (k .runs .clash))
     then must (eqb (k .id) id) 17 (base + tfhd)
     then must (leb 1 (k .runs .samples) && leb (k .runs .samples) sampleLimit) 18 (base + traf)
 

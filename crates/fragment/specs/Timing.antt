@@ -11,7 +11,7 @@ use Rattle.rules.specs.Fragment.{startOf, endOf}
 use Rattle.rules.specs.declared.Rule.{Rule}
 use Rattle.rules.specs.declared.Rule.the-variants.{Holds, Breaks}
 use Rattle.rules.specs.declared.Defaults.{Defaults}
-use Rattle.fragment.specs.Told.{ruleOf}
+use Rattle.fragment.specs.Runs.{ruleAt}
 use Rattle.fragment.specs.declared.shape.Shaped.{Shaped}
 use Rattle.fragment.specs.declared.timing.End.{End}
 use Rattle.fragment.specs.declared.timing.End.the-variants.{At, Wrong}
@@ -28,13 +28,18 @@ unfoldable pub spanned : ℕ → ℕ → ℕ → Shaped → Rule
 spanned base len payload s =
     must (leb 1 (s .runs .ticks) && leb (s .start + s .runs .ticks) tickLimit) 20 (base + s .boxes .run)
     then must (not (has (s .runs .first) 0x10000)) 21 (base + s .boxes .run)
-    then ruleOf (s .runs .tiled)
+    then ruleAt 22 (s .runs .tiled)
     then must (eqb (s .runs .bytes) payload) 22 (base + len)
 
 -- 19 to 22 of it
 unfoldable pub timed : ℕ → ℕ → ℕ → ℕ → ℕ → Shaped → Rule
 timed base len payload k prev s =
     must (eqb k 0 || eqb (s .start) prev) 19 (base + s .boxes .tfdt) then spanned base len payload s
+
+-- the rule holds, with a start and the end so many ticks later; or it breaks
+abbrev pub saysSpan : Fragment → Rule → ℕ → ℕ → Type 0
+saysSpan (Good f) rule start ticks = (rule ≡ Holds) × (f .start ≡ start) × (f .end ≡ start + ticks) × (f .end ≤ tickLimit)
+saysSpan (Refused n p) rule start ticks = rule ≡ Breaks n 0 p
 
 -- the rule holds, with the fragment's start and end; or it breaks
 abbrev pub saysFragment : Fragment → Rule → List ℕ → Defaults → Type 0

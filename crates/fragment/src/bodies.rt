@@ -47,11 +47,14 @@ pub enum Bodies {
 fn read_mfhd(m: &[u8], at: usize) -> Mfhd
     ensures { λ r. ⌜ saysMfhd r (now (m .entry)) at ⌝ }
 {
-    if fields::plain(m, at, 16) {
-        Mfhd::Plain
-    } else {
-        Mfhd::Wrong
+    let f = fields::full_at(m, at);
+    if f.version != 0 {
+        return Mfhd::Wrong;
     }
+    if f.size != 16 {
+        return Mfhd::Wrong;
+    }
+    Mfhd::Plain
 }
 
 // The `tfhd` at a place: version 0, sized by its flags; with the `trex` defaults.
@@ -89,13 +92,23 @@ pub fn time_at(m: &[u8], at: usize) -> u64
 
 // The `tfdt` at a place: 16 (version 0) or 20 (version 1).
 fn read_tfdt(m: &[u8], at: usize) -> Start
+    requires { ⌜ at ≤ 17179869184 ⌝ }
     ensures { λ r. ⌜ saysStart r (now (m .entry)) at ⌝ }
 {
-    if fields::versioned(m, at, 16, 20) {
-        Start::At(time_at(m, at))
-    } else {
-        Start::Wrong
+    let f = fields::full_at(m, at);
+    let p = at + f.head + 4;
+    if f.version == 0 {
+        if f.size == 16 {
+            return Start::At(numbers::be4(m, p) as u64);
+        }
+        return Start::Wrong;
     }
+    if f.version == 1 {
+        if f.size == 20 {
+            return Start::At(numbers::be8(m, p));
+        }
+    }
+    Start::Wrong
 }
 
 // Rule 15: `mfhd`, `tfhd`, `tfdt`, then the runs, by the `trex` defaults and the header length of the `mdat`.
@@ -116,10 +129,10 @@ pub fn read_bodies(m: &[u8], base: u64, x: Moof, d: Defaults, head: u64) -> Bodi
     let Start::At(start) = tfdt else {
         return Bodies::Refused(base + x.tfdt as u64);
     };
-    let b = fields::body(m, x.traf);
-    let shift = x.traf + fields::head_of(m, x.traf);
+    let t = fields::inner(m, x.traf);
+    let end = t.end;
     let data = m.len() as u64;
-    let all = runs::survey_runs(m, b, shift, x.run - shift, base, own, data + head);
+    let all = runs::survey_runs(m, &m[..end], x.run, base, own, data + head);
     match all {
         Survey::Missized(p) => Bodies::Refused(p),
         Survey::All(runs) => Bodies::Known(Body {

@@ -4,10 +4,7 @@ ghost use Prim.Native.Nat.{_+_, _<_, _≤_};
 ghost use lib.ListN.{length};
 ghost use Rattle.rules.specs.Header.{oneOf, someOf};
 ghost use Rattle.rules.specs.Boxes.{boxes, seen, firstOf};
-ghost use Rattle.boxes.specs.Siblings.{secondOf};
-ghost use Rattle.fragment.specs.Counts.{saysCount, saysPlace, saysInMoof, saysInTraf, saysFound, Inside, SawThree};
-ghost use Rattle.fragment.specs.Usual.{saysUsual};
-use crate::usual::Usual;
+ghost use Rattle.fragment.specs.Counts.{saysCount, saysPlace, saysInMoof, saysInTraf, saysFound, Inside, seenOf, Again, SawThree};
 use boxes::Next;
 use boxes::kinds::MFHD;
 use boxes::kinds::TFDT;
@@ -15,7 +12,6 @@ use boxes::kinds::TFHD;
 use boxes::kinds::TRAF;
 use boxes::kinds::TRUN;
 use rules::Look;
-use rules::Seen;
 
 // A box that is there as often as it may be, or the place of the refusal.
 pub enum Count {
@@ -54,60 +50,97 @@ pub enum Found {
     Refused(u64),
 }
 
-// What is seen of three wanted types.
-pub struct Trio {
-    pub a: Seen,
-    pub b: Seen,
-    pub c: Seen,
+// Where the first and the second box of a type stand; 0 where there is none.
+pub struct Sight {
+    pub first: usize,
+    pub second: usize,
 }
 
-// What is seen of three wanted types among the sibling boxes of a slice.
-fn tally(s: &[u8], v: u32, w: u32, x: u32) -> Trio
-    ensures { λ r. ⌜ SawThree (now (s .entry)) v w x r ⌝ }
+// What is seen of three wanted types.
+pub struct Trio {
+    pub a: Sight,
+    pub b: Sight,
+    pub c: Sight,
+}
+
+// What is seen after one box more at a place.
+fn again(v: Sight, at: usize) -> Sight
+    requires { ⌜ 0 < at ⌝ }
+    ensures { λ r. ⌜ Again v at r ⌝ }
 {
-    let mut at = 0;
-    let mut a = Seen::Never;
-    let mut b = Seen::Never;
-    let mut c = Seen::Never;
+    if v.first == 0 {
+        return Sight {
+            first: at,
+            second: 0,
+        };
+    }
+    if v.second == 0 {
+        return Sight {
+            first: v.first,
+            second: at,
+        };
+    }
+    v
+}
+
+// What is seen of three wanted types among the sibling boxes of a slice from a place on.
+fn tally(s: &[u8], from: usize, v: u32, w: u32, x: u32) -> Trio
+    requires { ⌜ (0 < from) × (0 < v) × (0 < w) × (0 < x) ⌝ }
+    ensures { λ r. ⌜ SawThree (now (s .entry)) from v w x r ⌝ }
+{
+    let mut at = from;
+    let mut a = Sight {
+        first: 0,
+        second: 0,
+    };
+    let mut b = Sight {
+        first: 0,
+        second: 0,
+    };
+    let mut c = Sight {
+        first: 0,
+        second: 0,
+    };
     loop {
         let l = boxes::look(s, at);
         let Look::Header { size, kind, .. } = l else {
             return Trio { a, b, c };
         };
-        if boxes::named(v, kind) {
-            a = boxes::again(a, at);
+        if kind == v {
+            a = again(a, at);
         }
-        if boxes::named(w, kind) {
-            b = boxes::again(b, at);
+        if kind == w {
+            b = again(b, at);
         }
-        if boxes::named(x, kind) {
-            c = boxes::again(c, at);
+        if kind == x {
+            c = again(c, at);
         }
         at += size;
     }
 }
 
 // One box: the container's place if missing, the first extra box's if too many.
-fn only(v: Seen, container: u64, inner: u64) -> Count
-    requires { ⌜ (secondOf v ≤ 4294967296) × (inner ≤ 17179869184) ⌝ }
-    ensures { λ r. ⌜ saysCount r (oneOf 14 container inner v) v ⌝ }
+fn only(v: Sight, container: u64, base: u64) -> Count
+    requires { ⌜ (v .second ≤ 4294967296) × (base ≤ 4294967296) ⌝ }
+    ensures { λ r. ⌜ saysCount r (oneOf 14 container base (seenOf v)) (seenOf v) ⌝ }
 {
-    match v {
-        Seen::Never => Count::Refused(container),
-        Seen::Once(a) => Count::At(a),
-        Seen::Twice(_, b) => Count::Refused(inner + b as u64),
+    if v.first == 0 {
+        return Count::Refused(container);
     }
+    if v.second != 0 {
+        return Count::Refused(base + v.second as u64);
+    }
+    Count::At(v.first)
 }
 
 // One box or more: the first.
-fn first_seen(v: Seen, container: u64) -> Count
-    ensures { λ r. ⌜ saysCount r (someOf 14 container v) v ⌝ }
+fn first_seen(v: Sight, container: u64) -> Count
+    ensures { λ r. ⌜ saysCount r (someOf 14 container (seenOf v)) (seenOf v) ⌝ }
 {
-    match v {
-        Seen::Never => Count::Refused(container),
-        Seen::Once(a) => Count::At(a),
-        Seen::Twice(a, _) => Count::At(a),
+    if v.first == 0 {
+        return Count::Refused(container);
     }
+    Count::At(v.first)
 }
 
 // The place of a refusal.
@@ -125,24 +158,20 @@ fn in_moof(m: &[u8], base: u64) -> InMoof
     requires { ⌜ (length (now m) ≤ 4294967296) × (base ≤ 4294967296) ⌝ }
     ensures { λ r. ⌜ saysInMoof r base (now (m .entry)) ⌝ }
 {
-    let b = fields::body(m, 0);
-    let seen = tally(b, MFHD, TRAF, TRAF);
-    let head = fields::head_of(m, 0);
-    let inner = base + head as u64;
+    let o = fields::inner(m, 0);
+    let end = o.end;
+    let seen = tally(&m[..end], o.from, MFHD, TRAF, TRAF);
     let mfhds = seen.a;
     let trafs = seen.b;
-    let x = only(mfhds, base, inner);
+    let x = only(mfhds, base, base);
     let Count::At(mfhd) = x else {
         return InMoof::Refused(place_of(x));
     };
-    let y = only(trafs, base, inner);
+    let y = only(trafs, base, base);
     let Count::At(traf) = y else {
         return InMoof::Refused(place_of(y));
     };
-    InMoof::Both {
-        mfhd: head + mfhd,
-        traf: head + traf,
-    }
+    InMoof::Both { mfhd, traf }
 }
 
 // The counts in the `traf` at a place: one `tfhd`, one `tfdt`, one or more `trun`.
@@ -150,19 +179,18 @@ fn in_traf(m: &[u8], base: u64, traf: usize) -> InTraf
     requires { ⌜ (length (now m) ≤ 4294967296) × (base ≤ 4294967296) × (traf ≤ 4294967312) ⌝ }
     ensures { λ r. ⌜ saysInTraf r base (now (m .entry)) traf ⌝ }
 {
-    let b = fields::body(m, traf);
-    let seen = tally(b, TFHD, TFDT, TRUN);
-    let from = traf + fields::head_of(m, traf);
+    let o = fields::inner(m, traf);
+    let end = o.end;
+    let seen = tally(&m[..end], o.from, TFHD, TFDT, TRUN);
     let container = base + traf as u64;
-    let inner = base + from as u64;
     let tfhds = seen.a;
     let tfdts = seen.b;
     let truns = seen.c;
-    let x = only(tfhds, container, inner);
+    let x = only(tfhds, container, base);
     let Count::At(tfhd) = x else {
         return InTraf::Refused(place_of(x));
     };
-    let y = only(tfdts, container, inner);
+    let y = only(tfdts, container, base);
     let Count::At(tfdt) = y else {
         return InTraf::Refused(place_of(y));
     };
@@ -170,28 +198,14 @@ fn in_traf(m: &[u8], base: u64, traf: usize) -> InTraf
     let Count::At(run) = z else {
         return InTraf::Refused(place_of(z));
     };
-    InTraf::Three {
-        tfhd: from + tfhd,
-        tfdt: from + tfdt,
-        run: from + run,
-    }
+    InTraf::Three { tfhd, tfdt, run }
 }
 
-// Rule 14: the boxes of a fragment, with no count of them where the layout is the usual one.
-pub fn find_boxes(m: &[u8], base: u64, layout: Usual) -> Found
+// Rule 14: the boxes of a fragment.
+pub fn find_boxes(m: &[u8], base: u64) -> Found
     requires { ⌜ (length (now m) ≤ 4294967296) × (base ≤ 4294967296) ⌝ }
-    requires { ⌜ saysUsual layout (now m) ⌝ }
     ensures { λ r. ⌜ saysFound r base (now (m .entry)) ⌝ }
 {
-    if let Usual::At { tfdt, run, .. } = layout {
-        return Found::All(Moof {
-            mfhd: 8,
-            traf: 24,
-            tfhd: 32,
-            tfdt,
-            run,
-        });
-    }
     let outer = in_moof(m, base);
     match outer {
         InMoof::Refused(p) => Found::Refused(p),

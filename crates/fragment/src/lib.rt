@@ -9,8 +9,6 @@ use boxes::kinds::TFDT;
 use boxes::kinds::TRAF;
 use rules::Header;
 use shape::Shape;
-use usual::Quick;
-use usual::Usual;
 
 mod bodies;
 mod counts;
@@ -19,8 +17,6 @@ mod runs;
 mod samples;
 mod shape;
 mod timing;
-mod told;
-mod usual;
 
 // A good fragment's start and end.
 pub struct Facts {
@@ -40,12 +36,7 @@ pub fn check(m: &[u8], base: u64, head: u64, payload: u64, h: Header, k: u64, pr
     requires { ⌜ (length (now m) ≤ 4294967296) × (base ≤ 4294967296) × (head ≤ 16) ⌝ }
     ensures { λ r. ⌜ saysFragment r (shape base (now (m .entry)) (h .id) then timing base (now (m .entry)) (h .defaults) head payload k prev) (now (m .entry)) (h .defaults) ⌝ }
 {
-    let layout = usual::usual_of(m);
-    let quick = usual::quick_check(m, base, head, payload, h, k, prev, layout);
-    if let Quick::Known(f) = quick {
-        return f;
-    }
-    let answer = shape::shape_of(m, base, h.id, h.defaults, head, layout);
+    let answer = shape::shape_of(m, base, h.id, h.defaults, head);
     match answer {
         Shape::Refused { number, place } => Fragment::Refused { number, place },
         Shape::Good(s) => timing::time(m, base, payload, k, prev, s),
@@ -56,13 +47,7 @@ pub fn check(m: &[u8], base: u64, head: u64, payload: u64, h: Header, k: u64, pr
 pub fn start_of(m: &[u8]) -> u64
     ensures { λ r. ⌜ r ≡ startOf (now (m .entry)) ⌝ }
 {
-    let layout = usual::usual_of(m);
-    match layout {
-        Usual::At { tfdt, .. } => bodies::time_at(m, tfdt),
-        Usual::Other => {
-            let traf = counts::child_of(m, 0, TRAF);
-            let tfdt = counts::child_of(m, traf, TFDT);
-            bodies::time_at(m, tfdt)
-        }
-    }
+    let traf = counts::child_of(m, 0, TRAF);
+    let tfdt = counts::child_of(m, traf, TFDT);
+    bodies::time_at(m, tfdt)
 }

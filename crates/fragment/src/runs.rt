@@ -1,20 +1,19 @@
 // The runs of a fragment, one after the other: rules 15 and 16, the samples in all, the first sample, and the tiling of rule 22.
 ghost use mathlib.Core.Path.{_≡_};
 ghost use mathlib.Core.Bool.{not, _&&_};
-ghost use Prim.Native.Nat.{_≤_};
-ghost use lib.ListN.{length};
+ghost use Prim.Native.Nat.{ℕ, _<_, _≤_};
+ghost use lib.ListN.{length, take};
 ghost use lib.Dec.{eqb};
 ghost use Rattle.numbers.specs.Numbers.{has, when};
+ghost use Rattle.rules.specs.Rules.{_then_, must};
 ghost use Rattle.fragment.specs.Layout.{firstFlagsBehind, placedBehind};
-ghost use Rattle.fragment.specs.Runs.{runsAt, saysTrun, saysSurvey};
+ghost use Rattle.fragment.specs.Runs.{runsAt, ruleAt, Framed, saysTrun, saysSurvey};
 use crate::layout;
 use crate::samples;
 use crate::shape::SAMPLE_LIMIT;
-use crate::told;
-use crate::told::Told;
-use boxes::Next;
 use boxes::kinds::TRUN;
 use rules::Defaults;
+use rules::Look;
 
 // What a `trun` says: its flags, its samples and where its header ends, or that it is sized otherwise.
 pub enum Trun {
@@ -26,15 +25,15 @@ pub enum Trun {
     Wrong,
 }
 
-// What all runs say: rule 16 and their samples in all; where these are few, also their durations and sizes, the first sample's flags,
-// and rule 22 of their offsets.
+// What all runs say: the first place where rule 16 breaks and their samples in all; where these are few, also their durations and sizes,
+// the first sample's flags, and the first place where rule 22 of their offsets breaks. A place is 0 where there is none.
 pub struct Runs {
-    pub clash: Told,
+    pub clash: u64,
     pub samples: u64,
     pub ticks: u64,
     pub bytes: u64,
     pub first: u32,
-    pub tiled: Told,
+    pub tiled: u64,
 }
 
 // What all runs say, or the place of the first that is sized otherwise.
@@ -43,20 +42,22 @@ pub enum Survey {
     Missized(u64),
 }
 
-// The `trun` at a place: version 0 or 1, sized by its flags and its samples.
-fn read_trun(m: &[u8], r: usize) -> Trun
-    requires { ⌜ r ≤ 17179869184 ⌝ }
+// The `trun` at a place, by its header's length and its size: version 0 or 1, sized by its flags and its samples.
+fn read_trun(m: &[u8], r: usize, head: usize, size: usize) -> Trun
+    requires { ⌜ Framed (now m) r head size ⌝ }
     ensures { λ a. ⌜ saysTrun a (now (m .entry)) r ⌝ }
 {
-    let f = fields::full_at(m, r);
-    if 1 < f.version {
+    if size < head + 8 {
         return Trun::Wrong;
     }
-    let flags = f.flags;
-    let behind = r + f.head;
-    let count = numbers::be4(m, behind + 4);
+    let behind = r + head;
+    if 1 < m[behind] {
+        return Trun::Wrong;
+    }
+    let flags = numbers::near3(m, behind + 1);
+    let count = numbers::near4(m, behind + 4);
     let own = layout::stride(flags) as u64 * count as u64;
-    if f.size == 8 + layout::run_head(flags) as u64 + own {
+    if size as u64 == head as u64 + layout::run_head(flags) as u64 + own {
         Trun::Run {
             flags,
             count,
@@ -131,31 +132,37 @@ pub fn placed_behind(first: bool, m: &[u8], p: usize, flags: u32, e: u64) -> boo
     !first
 }
 
-// The runs in the body of `traf`, which is shifted in the `moof`, from a start on, where the first sample's byte is at a place after the
-// `moof` start.
-pub fn survey_runs(
-    m: &[u8],
-    b: &[u8],
-    shift: usize,
-    start: usize,
-    base: u64,
-    d: Defaults,
-    from: u64,
-) -> Survey
-    requires { ⌜ (length (now b) ≤ 4294967296) × (start ≤ length (now b)) × (shift ≤ 8589934592) × (base ≤ 4294967296) × (from ≤ 8589934592) ⌝ }
-    ensures { λ r. ⌜ saysSurvey r base (now (m .entry)) d from (runsAt (now (b .entry)) shift start) ⌝ }
+// The first place where a rule breaks, 0 where there is none: one from before, else this one where the test fails.
+fn first_place(before: u64, test: bool, place: u64) -> u64
+    requires { ⌜ 0 < place ⌝ }
+    ensures { λ r. ⌜ ((n : ℕ) → ruleAt n r ≡ (ruleAt n before then must test n place)) ⌝ }
+{
+    if test {
+        return before;
+    }
+    if before != 0 {
+        return before;
+    }
+    place
+}
+
+// The runs from a start on in a front of the `moof`, where the first sample's byte is at a place after the `moof` start.
+pub fn survey_runs(m: &[u8], s: &[u8], start: usize, base: u64, d: Defaults, from: u64) -> Survey
+    requires { ⌜ (length (now m) ≤ 4294967296) × (8 ≤ start) × (base ≤ 4294967296) × (from ≤ 8589934592) ⌝ }
+    requires { ⌜ now s ≡ take (length (now s)) (now m) ⌝ }
+    ensures { λ r. ⌜ saysSurvey r base (now (m .entry)) d from (runsAt (now (s .entry)) start) ⌝ }
 {
     let mut at = start;
     let mut lead = true;
-    let mut clash = Told::Holds;
+    let mut clash: u64 = 0;
     let mut samples: u64 = 0;
     let mut ticks: u64 = 0;
     let mut bytes: u64 = 0;
     let mut first: u32 = 0;
-    let mut tiled = Told::Holds;
+    let mut tiled: u64 = 0;
     loop {
-        let n = boxes::next_of(b, at, TRUN);
-        let Next::At { place, next } = n else {
+        let l = boxes::look(s, at);
+        let Look::Header { head, size, kind } = l else {
             return Survey::All(Runs {
                 clash,
                 samples,
@@ -165,29 +172,37 @@ pub fn survey_runs(
                 tiled,
             });
         };
-        let r = shift + place;
-        let stands = base + r as u64;
-        let run = read_trun(m, r);
-        let Trun::Run {
-            flags,
-            count,
-            behind,
-        } = run
-        else {
-            return Survey::Missized(stands);
-        };
-        clash = told::also(clash, apart(flags), 16, stands);
-        first = first_after(samples, first, count, m, behind, flags, d);
-        samples += count as u64;
-        if samples <= SAMPLE_LIMIT {
-            let own = placed_behind(lead, m, behind, flags, from + bytes);
-            tiled = told::also(tiled, own, 22, stands);
-            let fields = behind + layout::run_head(flags);
-            let sums = samples::sums_of(m, fields, layout::stride(flags), count as usize, flags, d);
-            ticks += sums.ticks;
-            bytes += sums.bytes;
+        if kind == TRUN {
+            let stands = base + at as u64;
+            let run = read_trun(m, at, head, size);
+            let Trun::Run {
+                flags,
+                count,
+                behind,
+            } = run
+            else {
+                return Survey::Missized(stands);
+            };
+            clash = first_place(clash, apart(flags), stands);
+            first = first_after(samples, first, count, m, behind, flags, d);
+            samples += count as u64;
+            if samples <= SAMPLE_LIMIT {
+                let own = placed_behind(lead, m, behind, flags, from + bytes);
+                tiled = first_place(tiled, own, stands);
+                let fields = behind + layout::run_head(flags);
+                let sums = samples::sums_of(
+                    m,
+                    fields,
+                    layout::stride(flags),
+                    count as usize,
+                    flags,
+                    d,
+                );
+                ticks += sums.ticks;
+                bytes += sums.bytes;
+            }
+            lead = false;
         }
-        lead = false;
-        at = next;
+        at += size;
     }
 }

@@ -7,10 +7,8 @@ ghost use lib.Dec.{leb};
 ghost use Rattle.numbers.specs.Numbers.{has};
 ghost use Rattle.rules.specs.Limits.{sampleLimit};
 ghost use Rattle.rules.specs.Fragment.{shape};
-ghost use Rattle.fragment.specs.Told.{ruleOf};
 ghost use Rattle.fragment.specs.Counts.{Stand};
-ghost use Rattle.fragment.specs.Usual.{saysUsual};
-ghost use Rattle.fragment.specs.Shape.{settled, rules15to18, saysShape};
+ghost use Rattle.fragment.specs.Shape.{ruleOf, settled, rules15to18, saysShape};
 use crate::bodies;
 use crate::bodies::Bodies;
 use crate::bodies::Body;
@@ -18,9 +16,6 @@ use crate::counts;
 use crate::counts::Found;
 use crate::counts::Moof;
 use crate::runs::Runs;
-use crate::told;
-use crate::told::Told;
-use crate::usual::Usual;
 use rules::Defaults;
 
 // A fragment of good shape: where its boxes stand, its start, and what its runs say.
@@ -34,6 +29,12 @@ pub struct Shaped {
 pub enum Shape {
     Good(Shaped),
     Refused { number: u64, place: u64 },
+}
+
+// A rule holds, or breaks with its number and a place.
+pub enum Told {
+    Holds,
+    Breaks { number: u64, place: u64 },
 }
 
 // Rule 18: the samples of a fragment.
@@ -73,13 +74,22 @@ fn settle(base: u64, id: u32, tfhd: usize, traf: usize, k: Body) -> Told
     }
     let runs = k.runs;
     let clash = runs.clash;
-    let Told::Holds = clash else {
-        return clash;
-    };
+    if clash != 0 {
+        return Told::Breaks {
+            number: 16,
+            place: clash,
+        };
+    }
     if k.id != id {
         return Told::Breaks { number: 17, place };
     }
-    told::must(few(runs.samples), 18, base + traf as u64)
+    if !few(runs.samples) {
+        return Told::Breaks {
+            number: 18,
+            place: base + traf as u64,
+        };
+    }
+    Told::Holds
 }
 
 // Rules 15 to 18 of a fragment whose boxes stand at these places.
@@ -109,12 +119,11 @@ fn judge(m: &[u8], base: u64, id: u32, x: Moof, d: Defaults, head: u64) -> Shape
 }
 
 // Rules 14 to 18, with what the runs say by the `trex` defaults and the header length of the `mdat`.
-pub fn shape_of(m: &[u8], base: u64, id: u32, d: Defaults, head: u64, layout: Usual) -> Shape
+pub fn shape_of(m: &[u8], base: u64, id: u32, d: Defaults, head: u64) -> Shape
     requires { ⌜ (length (now m) ≤ 4294967296) × (base ≤ 4294967296) × (head ≤ 16) ⌝ }
-    requires { ⌜ saysUsual layout (now m) ⌝ }
     ensures { λ r. ⌜ saysShape r (shape base (now (m .entry)) id) base (now (m .entry)) d head ⌝ }
 {
-    let found = counts::find_boxes(m, base, layout);
+    let found = counts::find_boxes(m, base);
     match found {
         Found::Refused(place) => Shape::Refused { number: 14, place },
         Found::All(x) => judge(m, base, id, x, d, head),

@@ -6,13 +6,10 @@ ghost use lib.ListN.{length};
 ghost use lib.Dec.{eqb};
 ghost use Rattle.numbers.specs.Numbers.{has};
 ghost use Rattle.fragment.specs.Counts.{Stand};
-ghost use Rattle.fragment.specs.Timing.{saysEnd, spanned, timed};
-ghost use Rattle.fragment.specs.Usual.{saysSpan};
+ghost use Rattle.fragment.specs.Timing.{saysEnd, saysSpan, spanned, timed};
 use crate::Facts;
 use crate::Fragment;
 use crate::shape::Shaped;
-use crate::told;
-use crate::told::Told;
 
 // Rule 20: the last tick, 2^63 - 1.
 const TICK_LIMIT: u64 = 9223372036854775807;
@@ -72,13 +69,20 @@ fn span(m: &[u8], base: u64, payload: u64, s: Shaped) -> Fragment
     if !is_sync(runs.first) {
         return Fragment::Refused { number: 21, place };
     }
-    let offsets = runs.tiled;
-    let data = m.len() as u64;
-    let tiled = told::also(offsets, runs.bytes == payload, 22, base + data);
-    match tiled {
-        Told::Breaks { number, place } => Fragment::Refused { number, place },
-        Told::Holds => Fragment::Good(Facts { start, end }),
+    let tiled = runs.tiled;
+    if tiled != 0 {
+        return Fragment::Refused {
+            number: 22,
+            place: tiled,
+        };
     }
+    if runs.bytes != payload {
+        return Fragment::Refused {
+            number: 22,
+            place: base + m.len() as u64,
+        };
+    }
+    Fragment::Good(Facts { start, end })
 }
 
 // Rules 19 to 22 of a fragment of good shape, by what its runs say.

@@ -1,10 +1,10 @@
 -- Laws of rules 25 to 28: the boundaries side by side, and the rules in their order.
 use mathlib.Core.Path.{_≡_, refl, sym, ap, ap₂, _∙_}
-use mathlib.Core.List.{List, [], _∷_}
+use mathlib.Core.List.{List, [], _∷_, _++_, map}
 use mathlib.Core.Bool.{Bool, true, false}
 use Prim.Native.Nat.{ℕ, suc, _+_, _≤_}
 use native.Mathlib.Omega.{arith}
-use lib.ListN.{length, drop}
+use lib.ListN.{length, take, drop}
 use lib.Dec.{eqb}
 use borrow.Author.Tests.{eq-eqb, ne-eqb}
 use Rattle.rules.specs.Kinds.{moof}
@@ -16,7 +16,7 @@ use Rattle.rules.proofs.Then.{then-holds, then-breaks, then-last, must-true, mu
 use Rattle.rules.specs.declared.Rule.{Rule}
 use Rattle.rules.specs.declared.Rule.the-variants.{Holds, Breaks}
 use Rattle.boxes.specs.Siblings.{Comes}
-use Rattle.track.specs.Says.{lastEnd, Known}
+use Rattle.track.specs.Says.{lastEnd, Known, Kept}
 use Rattle.track.specs.declared.Facts.{Facts}
 use Rattle.track.proofs.Table.{written, boundaries-written}
 use Rattle.set.specs.Says.{tick28}
@@ -47,7 +47,7 @@ going-begins s₀ s e₀ e n m =
     }
 
 -- no places are left
-empty : (xs : List ℕ) → length xs ≡ 0 → xs ≡ []
+pub empty : (xs : List ℕ) → length xs ≡ 0 → xs ≡ []
 empty [] e = refl
 empty (x ∷ xs) e = absurd (omega arith)
 
@@ -127,3 +127,16 @@ module _ (s₀ s : List ℕ) (f₀ f : Facts) (k₀ : Known s₀ f₀) (k : Know
           (then-holds _ holds25
           ∙ then-holds _ holds26
           ∙ then-holds _ (must-true 27 (length s) (rw (← k .fragments, ← k₀ .fragments) (eq-eqb _ _ e))))
+
+      -- 28 by the starts that were kept of track 0
+      pub kept28 :
+          (a₀ : List ℕ) → f .fragments ≡ f₀ .fragments → Kept s₀ a₀ → f .fragments ≤ length a₀ →
+          rule28From 0 (take (f .fragments) a₀ ++ f₀ .last ∷ []) (boundaries s) (fragments s) ≡ agrees s₀ s
+      unfolding rule28 written
+      kept28 a₀ e m i =
+          ap (λ (x : List ℕ). rule28From 0 x (boundaries s) (fragments s))
+          (ap₂ (λ (x : List ℕ) (y : ℕ). x ++ y ∷ [])
+          (ap (λ (j : ℕ). take j a₀) (e ∙ k₀ .fragments) ∙ m .starts (omega (arith, e, k₀ .fragments)))
+          (k₀ .last)
+          ∙ sym (boundaries-written s₀ (omega (arith, k₀ .fragments, k₀ .some))))
+          ∙ only28 e

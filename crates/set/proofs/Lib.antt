@@ -1,5 +1,6 @@
 pub mod Records
 pub mod Beside
+pub mod Comparing
 pub mod Following
 pub mod Outcomes
 pub mod Unique

@@ -1,10 +1,12 @@
 // Rules 25 to 28: a track beside track 0.
 ghost use mathlib.Core.Path.{_≡_};
+ghost use mathlib.Core.List.{[], _∷_, _++_};
 ghost use Prim.Native.Nat.{_≤_};
-ghost use Rattle.rules.specs.Track.{fragmentCount};
-ghost use Rattle.rules.specs.Set.{rule28, agrees};
+ghost use lib.ListN.{length, take};
+ghost use Rattle.rules.specs.Track.{fragments, fragmentCount, boundaries};
+ghost use Rattle.rules.specs.Set.{rule28From, rule28, agrees};
 ghost use Rattle.rules.specs.declared.Rule.the-variants.{Breaks};
-ghost use Rattle.track.specs.Says.{lastEnd, Known};
+ghost use Rattle.track.specs.Says.{lastEnd, Known, Kept};
 ghost use Rattle.set.specs.Says.{tick28};
 use boxes::Next;
 use boxes::kinds::MOOF;
@@ -65,9 +67,34 @@ fn same_boundaries(s0: &[u8], last0: u64, s: &[u8], last: u64) -> Rule
     }
 }
 
-// Rules 25 to 28 of a track beside track 0, both accepted by themselves.
-pub fn agrees(s0: &[u8], f0: Facts, s: &[u8], f: Facts) -> Rule
-    requires { ⌜ Known (now s0) f0 × Known (now s) f ⌝ }
+// The same by the starts that were kept of both: only the track is walked, for the place.
+fn same_starts(starts0: &[u64], last0: u64, s: &[u8], starts: &[u64], last: u64, n: usize) -> Rule
+    requires { ⌜ (n ≡ fragmentCount (now s)) × (1 ≤ n) × (n ≤ length (now starts0)) × (n ≤ length (now starts)) ⌝ }
+    requires { ⌜ (last ≡ lastEnd (now s)) × Kept (now s) (now starts) ⌝ }
+    ensures { λ r. ⌜ r ≡ rule28From 0 (take n (now (starts0 .entry)) ++ last0 ∷ []) (boundaries (now (s .entry))) (fragments (now (s .entry))) ⌝ }
+{
+    let mut k: usize = 0;
+    let mut at: usize = 0;
+    let mut place: usize = 0;
+    while k < n {
+        let found = boxes::next_of(s, at, MOOF);
+        let Next::At { place: p, next: q } = found else {
+            return Rule::Holds;
+        };
+        if starts[k] != starts0[k] {
+            return breaks(28, p as u64);
+        }
+        place = p;
+        at = q;
+        k += 1;
+    }
+    tick28(last0, last, place)
+}
+
+// Rules 25 to 28 of a track beside track 0, both accepted by themselves; 28 by the starts that were kept, if there was room for all.
+pub fn agrees(s0: &[u8], starts0: &[u64], f0: Facts, s: &[u8], starts: &[u64], f: Facts) -> Rule
+    requires { ⌜ Known (now s0) f0 × Kept (now s0) (now starts0) ⌝ }
+    requires { ⌜ Known (now s) f × Kept (now s) (now starts) ⌝ }
     ensures { λ r. ⌜ r ≡ agrees (now (s0 .entry)) (now (s .entry)) ⌝ }
 {
     if f.handler != f0.handler {
@@ -78,6 +105,12 @@ pub fn agrees(s0: &[u8], f0: Facts, s: &[u8], f: Facts) -> Rule
     }
     if f.fragments != f0.fragments {
         return breaks(27, s.len() as u64);
+    }
+    let n = f.fragments as usize;
+    if n <= starts0.len() {
+        if n <= starts.len() {
+            return same_starts(starts0, f0.last, s, starts, f.last, n);
+        }
     }
     same_boundaries(s0, f0.last, s, f.last)
 }

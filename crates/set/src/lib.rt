@@ -7,7 +7,7 @@ ghost use Rattle.rules.specs.Rules.{_then_, ofTrack};
 ghost use Rattle.rules.specs.Bundle.{rule24, tracks};
 ghost use Rattle.rules.specs.Set.{agrees, setOutcome};
 ghost use Rattle.rules.specs.declared.Rule.the-variants.{Holds};
-ghost use Rattle.track.specs.Says.{Known};
+ghost use Rattle.track.specs.Says.{Known, Kept};
 ghost use Rattle.set.specs.Says.{allOf};
 use bundle::Bundled;
 use framing::BYTE_LIMIT;
@@ -16,13 +16,24 @@ use rules::Rule;
 use rules::Verdict;
 use track::Facts;
 use track::Judged;
+use track::START_ROOM;
 
 pub mod agree;
 pub mod bundle;
 
 // What was broken before a track, else what it breaks beside track 0.
-fn also(sofar: Rule, k: u64, s0: &[u8], f0: Facts, s: &[u8], f: Facts) -> Rule
-    requires { ⌜ Known (now s0) f0 × Known (now s) f ⌝ }
+fn also(
+    sofar: Rule,
+    k: u64,
+    s0: &[u8],
+    starts0: &[u64],
+    f0: Facts,
+    s: &[u8],
+    starts: &[u64],
+    f: Facts,
+) -> Rule
+    requires { ⌜ Known (now s0) f0 × Kept (now s0) (now starts0) ⌝ }
+    requires { ⌜ Known (now s) f × Kept (now s) (now starts) ⌝ }
     ensures { λ r. ⌜ r ≡ (sofar then ofTrack k (agrees (now (s0 .entry)) (now (s .entry)))) ⌝ }
 {
     match sofar {
@@ -35,7 +46,7 @@ fn also(sofar: Rule, k: u64, s0: &[u8], f0: Facts, s: &[u8], f: Facts) -> Rule
             track,
             place,
         },
-        Rule::Holds => numbered(k, agree::agrees(s0, f0, s, f)),
+        Rule::Holds => numbered(k, agree::agrees(s0, starts0, f0, s, starts, f)),
     }
 }
 
@@ -58,13 +69,15 @@ fn numbered(k: u64, r: Rule) -> Rule
 }
 
 // The tracks after track 0, from a place of the bundle on: each by itself, then each beside track 0.
-fn others(b: &[u8], from: usize, s0: &[u8], f0: Facts) -> Rule
-    requires { ⌜ Known (now s0) f0 × (from ≤ length (now b)) ⌝ }
+fn others(b: &[u8], from: usize, s0: &[u8], starts0: &[u64], f0: Facts) -> Rule
+    requires { ⌜ Known (now s0) f0 × Kept (now s0) (now starts0) ⌝ }
+    requires { ⌜ from ≤ length (now b) ⌝ }
     ensures { λ r. ⌜ r ≡ allOf (now (b .entry)) (now (s0 .entry)) from ⌝ }
 {
     let mut at = from;
     let mut k: u64 = 1;
     let mut sofar = Rule::Holds;
+    let mut starts = [0u64; START_ROOM];
     while k < bundle::RECORD_LIMIT {
         let mark = bundle::record_at(b, at);
         let Mark::Track(n) = mark else {
@@ -73,7 +86,7 @@ fn others(b: &[u8], from: usize, s0: &[u8], f0: Facts) -> Rule
         let a = at + 6;
         let e = a + n;
         let s = &b[a..e];
-        match track::judge(s) {
+        match track::judge(s, &mut starts) {
             Judged::Refused { number, place } => {
                 return Rule::Breaks {
                     number,
@@ -82,7 +95,7 @@ fn others(b: &[u8], from: usize, s0: &[u8], f0: Facts) -> Rule
                 };
             }
             Judged::Accepted(f) => {
-                sofar = also(sofar, k, s0, f0, s, f);
+                sofar = also(sofar, k, s0, starts0, f0, s, &starts, f);
                 at = e;
                 k += 1;
             }
@@ -103,15 +116,16 @@ fn members(b: &[u8], t: &mut [u64]) -> Verdict
     let a = 6;
     let e = a + n;
     let s0 = &b[a..e];
-    match track::judge(s0) {
+    let mut starts0 = [0u64; START_ROOM];
+    match track::judge(s0, &mut starts0) {
         Judged::Refused { number, place } => track::refused(number, 0, place),
-        Judged::Accepted(f0) => match others(b, e, s0, f0) {
+        Judged::Accepted(f0) => match others(b, e, s0, &starts0, f0) {
             Rule::Breaks {
                 number,
                 track,
                 place,
             } => track::refused(number, track, place),
-            Rule::Holds => track::accept(s0, f0, t),
+            Rule::Holds => track::accept(s0, f0, &starts0, t),
         },
     }
 }

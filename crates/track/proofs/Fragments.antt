@@ -1,9 +1,11 @@
 -- Laws of the walk over fragments: one fragment by its own bytes, and one fragment more.
 use mathlib.Core.Path.{_≡_, refl, sym, ap, _∙_}
-use mathlib.Core.List.{List, [], _∷_}
-use Prim.Native.Nat.{ℕ, _+_, _-_, _≤_}
+use mathlib.Core.List.{List, [], _∷_, _++_, map, append-nil}
+use Prim.Native.Nat.{ℕ, _+_, _-_, _≤_, _<_}
+use native.Mathlib.Numerals.{add-one}
 use native.Mathlib.Omega.{arith}
-use lib.ListN.{length, take, drop, length-take, length-drop}
+use lib.ListN.{length, take, drop, set, length-take, length-drop, length-set}
+use lib.Seq.{take-suc-set, append-snoc}
 use Rattle.rules.specs.Rules.{_then_}
 use Rattle.rules.specs.Boxes.{boxes, placesOf, whole, headOf, sizeOf}
 use Rattle.rules.specs.Kinds.{moof}
@@ -16,7 +18,7 @@ use Rattle.fragment.specs.Timing.{saysFragment}
 use Rattle.fragment.specs.declared.Fragment.{Fragment}
 use Rattle.fragment.specs.declared.Fragment.the-variants.{Good, Refused}
 use Rattle.boxes.specs.Siblings.{Comes}
-use Rattle.track.specs.Says.{saysAt, lastFrom, saysWalk}
+use Rattle.track.specs.Says.{saysAt, lastFrom, Kept, saysWalk}
 use Rattle.track.specs.declared.Walk.the-variants.{Done}
 
 -- what is said of a fragment's own bytes is said of the fragment at its place
@@ -55,31 +57,47 @@ empty (x ∷ xs) e = absurd (omega arith)
 pub none-left : (s : List ℕ) (at k : ℕ) → fragmentCount s ≡ k + length (fragmentsFrom s at) → fragmentCount s ≤ k → fragmentsFrom s at ≡ []
 none-left s at k e h = empty (fragmentsFrom s at) (omega arith)
 
--- the walk stands at a place, before the k-th fragment, after an end: the whole comes to what is left
-pub record Going (s : List ℕ) (h : Header) (at k prev : ℕ) : Type 0 where
+-- the walk stands at a place, before the k-th fragment, after an end, with k starts kept: the whole comes to what is left
+pub record Going (s : List ℕ) (h : Header) (at k prev : ℕ) (a : List ℕ) : Type 0 where
   pub rules : rules14to22 s h 0 0 (fragments s) ≡ rules14to22 s h k prev (fragmentsFrom s at)
   pub count : fragmentCount s ≡ k + length (fragmentsFrom s at)
   pub last : lastFrom s h 0 (fragments s) ≡ lastFrom s h prev (fragmentsFrom s at)
+  pub kept : fragmentCount s ≤ length a → take k a ++ map (startAt s) (fragmentsFrom s at) ≡ map (startAt s) (fragments s)
   pub few : k ≤ at
   pub inner : at ≤ length s
 
-pub going-begins : (s : List ℕ) (h : Header) → Going s h 0 0 0
+pub going-begins : (s : List ℕ) (h : Header) (a : List ℕ) → Going s h 0 0 0 a
 unfolding fragmentCount
-going-begins s h = record { rules = refl; count = omega arith; last = refl; few = omega arith; inner = omega arith }
+going-begins s h a =
+    record { rules = refl; count = omega arith; last = refl; kept = λ _. refl; few = omega arith; inner = omega arith }
 
-module _ (s : List ℕ) (h : Header) {at k prev : ℕ} (g : Going s h at k prev) where
+module _ (s : List ℕ) (h : Header) {at k prev : ℕ} {a : List ℕ} (g : Going s h at k prev a) where
+  -- every start is kept
+  going-kept : fragmentsFrom s at ≡ [] → Kept s a
+  going-kept e =
+      let n : fragmentCount s ≡ k = omega (arith, g .count, ap length e) in
+      record {
+        starts =
+            λ m.
+            ap (λ (j : ℕ). take j a) n
+            ∙ sym (append-nil (take k a))
+            ∙ sym (ap (λ (xs : List ℕ). take k a ++ map (startAt s) xs) e)
+            ∙ g .kept m;
+      }
+
   -- no fragment is left
-  pub going-done : placesOf moof (boxes s at) ≡ [] → saysWalk (Done k prev) s h
+  pub going-done : placesOf moof (boxes s at) ≡ [] → saysWalk (Done k prev) s h a
   unfolding fragmentsFrom rules14to22 lastFrom
   going-done e = (
     g .rules ∙ ap (rules14to22 s h k prev) e,
     omega (arith, g .count, ap length e),
     sym (g .last ∙ ap (lastFrom s h prev) e),
     omega (arith, g .few, g .inner),
+    going-kept e,
   )
 
   -- as many were walked as there are
-  pub going-all : fragmentCount s ≤ k → saysWalk (Done k prev) s h
+  pub going-all : fragmentCount s ≤ k → saysWalk (Done k prev) s h a
   unfolding fragmentsFrom
   going-all e = going-done (none-left s at k (g .count) e)
 
@@ -98,10 +116,25 @@ module _ (s : List ℕ) (h : Header) {at k prev : ℕ} (g : Going s h at k prev)
         ∙ sym (then-assoc (shapeAt s h p) (timingAt s h k prev p) (rules14to22 s h (k + 1) (endAt s h p) (fragmentsFrom s q)))
         ∙ then-breaks (rules14to22 s h (k + 1) (endAt s h p) (fragmentsFrom s q)) e
 
+    -- its start is kept
+    keeps : (start : ℕ) (b : List ℕ) → start ≡ startAt s p → b ≡ set a k start → fragmentCount s ≤ length b
+        → take (k + 1) b ++ map (startAt s) (fragmentsFrom s q) ≡ map (startAt s) (fragments s)
+    keeps start b e i m =
+        let n : fragmentCount s ≤ length a = omega (arith, m, ap length i, length-set a k start) in
+        let l : k < length a = omega (arith, g .count, ap length next) in
+        let rest = map (startAt s) (fragmentsFrom s q) in
+        ap (λ (y : List ℕ). take (k + 1) y ++ rest) i
+        ∙ rw (add-one) (ap (λ (y : List ℕ). y ++ rest) (take-suc-set a k start l))
+        ∙ append-snoc (take k a) start rest
+        ∙ ap (λ (v : ℕ). take k a ++ v ∷ rest) e
+        ∙ sym (ap (λ (xs : List ℕ). take k a ++ map (startAt s) xs) next)
+        ∙ g .kept n
+
     -- its rules hold
-    pub going-on : (end : ℕ) → (shapeAt s h p then timingAt s h k prev p) ≡ Holds → end ≡ endAt s h p → Going s h q (k + 1) end
+    pub going-on : (start end : ℕ) (b : List ℕ) → (shapeAt s h p then timingAt s h k prev p) ≡ Holds → start ≡ startAt s p → end ≡ endAt s h p → b ≡ set a k start
+        → Going s h q (k + 1) end b
     unfolding rules14to22 lastFrom
-    going-on end e f =
+    going-on start end b e f₀ f i =
         record {
           rules =
               g .rules
@@ -111,6 +144,7 @@ module _ (s : List ℕ) (h : Header) {at k prev : ℕ} (g : Going s h at k prev)
               ∙ ap (λ (y : ℕ). rules14to22 s h (k + 1) y (fragmentsFrom s q)) (sym f);
           count = omega (arith, g .count, ap length next);
           last = g .last ∙ ap (lastFrom s h prev) next ∙ ap (λ (y : ℕ). lastFrom s h y (fragmentsFrom s q)) (sym f);
+          kept = keeps start b f₀ i;
           few = omega (arith, g .few, c .from, c .past);
           inner = c .inner;
         }

@@ -20,14 +20,14 @@ use Rattle.rules.specs.declared.Rule.the-variants.{Holds, Breaks}
 use Rattle.header.specs.Heads.{HeadsAs, headsWithin}
 use Rattle.header.specs.declared.Facts.{Facts}
 use Rattle.header.specs.declared.Headed.the-variants.{Good, Refused}
-use Rattle.track.specs.Says.{lastFrom, lastEnd, saysWalk, headed, Known, saysJudged}
-use Rattle.track.specs.declared.Walk.the-variants.{Done, Cut}
+use Rattle.track.specs.Says.{lastFrom, lastEnd, saysWalk, headed, saysJudged}
+use Rattle.track.specs.declared.Walk.the-variants.{Done}
 use Rattle.track.specs.declared.Judged.{Judged}
 use Rattle.track.specs.declared.Judged.the-variants.{Accepted}
 
 module _ (s : List ℕ) (base : ℕ) (x : Facts) (h : headed s base x) where
   -- the fragments' rules hold: the track is accepted
-  pub accepts : {count last : ℕ} → 1 ≤ fragmentCount s → saysWalk (Done count last) s (x .header)
+  pub accepts : {count last : ℕ} {a : List ℕ} → 1 ≤ fragmentCount s → saysWalk (Done count last) s (x .header) a
       → saysJudged
       (Accepted (record {
         fragments = count;
@@ -37,7 +37,7 @@ module _ (s : List ℕ) (base : ℕ) (x : Facts) (h : headed s base x) where
         mdhd = base + x .mdhd;
         last = last;
       }))
-      s (rules14to22 s (headerOf s) 0 0 (fragments s))
+      s a (rules14to22 s (headerOf s) 0 0 (fragments s))
   unfolding timescale handler hdlrAt mdhdAt lastEnd
   accepts n w = (
     ap (λ (g : Header). rules14to22 s g 0 0 (fragments s)) (sym (h .1)) ∙ w .0,
@@ -51,10 +51,11 @@ module _ (s : List ℕ) (base : ℕ) (x : Facts) (h : headed s base x) where
       mdhd = ap₂ _+_ (h .0) (h .2);
       last = w .2 ∙ ap (λ (g : Header). lastFrom s g 0 (fragments s)) (h .1);
     },
+    w .4,
   )
 
   -- a fragment breaks a rule
-  pub refuses : {n p : ℕ} → saysWalk (Cut n p) s (x .header) → rules14to22 s (headerOf s) 0 0 (fragments s) ≡ Breaks n 0 p
+  pub refuses : {n p : ℕ} → rules14to22 s (x .header) 0 0 (fragments s) ≡ Breaks n 0 p → rules14to22 s (headerOf s) 0 0 (fragments s) ≡ Breaks n 0 p
   refuses w = ap (λ (g : Header). rules14to22 s g 0 0 (fragments s)) (sym (h .1)) ∙ w
 
 -- the header's check is that of the track's own boxes
@@ -91,11 +92,11 @@ module _ (s : List ℕ) where
     short = must-true 1 0 (le-leb (length s) byteLimit h)
 
     -- framed: the other rules decide
-    pub framed-on : rules2to5 s ≡ Holds → (r : Judged)
-        → saysJudged r s (rule6 s then rulesOfHeader s then rules14to22 s (headerOf s) 0 0 (fragments s))
-        → saysJudged r s (ruling s)
+    pub framed-on : rules2to5 s ≡ Holds → (r : Judged) (a : List ℕ)
+        → saysJudged r s a (rule6 s then rulesOfHeader s then rules14to22 s (headerOf s) 0 0 (fragments s))
+        → saysJudged r s a (ruling s)
     unfolding ruling
-    framed-on e r w = rw (then-holds _ short, then-holds _ e) w
+    framed-on e r a w = rw (then-holds _ short, then-holds _ e) w
 
     -- misframed
     pub misframed : {n p : ℕ} → rules2to5 s ≡ Breaks n 0 p → ruling s ≡ Breaks n 0 p

@@ -1,12 +1,12 @@
 -- Laws of the table: the boundaries as each start and the last end, written from the front.
 use mathlib.Core.Path.{_≡_, refl, sym, ap, _∙_}
-use mathlib.Core.List.{List, [], _∷_, _++_}
+use mathlib.Core.List.{List, [], _∷_, _++_, map, append-assoc}
 use Prim.Native.Nat.{ℕ, suc, _+_, _≤_, _<_}
 use native.Mathlib.Nat.{zero-add}
 use native.Mathlib.Numerals.{add-one}
 use native.Mathlib.Omega.{arith}
-use lib.ListN.{length, drop, set, length-set}
-use lib.Seq.{sets, sets-eq}
+use lib.ListN.{length, take, drop, getD, set, length-set}
+use lib.Seq.{sets, sets-eq, paste-suc, drop-cons, set-at, length-take-le}
 use Rattle.rules.specs.Kinds.{moof}
 use Rattle.rules.specs.Boxes.{boxes, placesOf, whole}
 use Rattle.rules.specs.Fragment.{startOf}
@@ -16,13 +16,12 @@ use Rattle.rules.specs.declared.Verdict.{Verdict}
 use Rattle.rules.specs.Track.{Outcome, ruling, timescale, roomFor, refused, accepted, trackOutcome, headerOf, fragments, fragmentsFrom, fragmentCount, startAt, endAt, ticks, ticksAfter, boundaries}
 use Rattle.rules.specs.declared.Header.{Header}
 use Rattle.boxes.specs.Siblings.{Comes}
-use Rattle.track.specs.Says.{lastFrom, lastEnd}
+use Rattle.track.specs.Says.{lastFrom, lastEnd, Kept}
 use Rattle.track.proofs.Fragments.{none-left}
 
 -- each start, and the last end
 unfoldable pub written : List ℕ → ℕ → List ℕ → List ℕ
-written s last [] = last ∷ []
-written s last (x ∷ xs) = startAt s x ∷ written s last xs
+written s last xs = map (startAt s) xs ++ last ∷ []
 
 ticks-written : (s : List ℕ) (h : Header) (e : ℕ) (xs : List ℕ) → ticksAfter s h e xs ≡ written s (lastFrom s h e xs) xs
 unfolding ticksAfter written lastFrom
@@ -110,6 +109,48 @@ module _ (s t₀ : List ℕ) {last at k : ℕ} {t : List ℕ} (w : Writing s t�
           few = omega (arith, w .few, c .from, c .past);
           inner = c .inner;
         }
+
+-- of n numbers of a the first k are copied to the front of the table t
+pub record Copying (a t₀ : List ℕ) (n k : ℕ) (t : List ℕ) : Type 0 where
+  pub comes : t ≡ take k a ++ drop k t₀
+  pub same : length t ≡ length t₀
+  pub all : (n ≤ length a) × (n + 1 ≤ length t₀)
+  pub few : k ≤ n
+
+pub copying-begins : (a t : List ℕ) (n : ℕ) → n ≤ length a → n + 1 ≤ length t → Copying a t n 0 t
+copying-begins a t n h m = record { comes = refl; same = refl; all = (h, m); few = omega arith }
+
+module _ (a t₀ : List ℕ) {n k : ℕ} {t : List ℕ} (w : Copying a t₀ n k t) where
+  -- a number
+  pub copying-on : k < n → Copying a t₀ n (k + 1) (set t k (getD a k 0))
+  copying-on h =
+      record {
+        comes = rw (w .comes, add-one) (simp zero-add at (paste-suc t₀ 0 a k 0 (omega (arith, w .all)) (omega (arith, w .all))));
+        same = simp length-set (w .same);
+        all = w .all;
+        few = omega arith;
+      }
+
+  -- the last number, after n
+  pub copying-ends : n ≤ k → (last : ℕ) → set t k last ≡ take n a ++ last ∷ drop (n + 1) t₀
+  copying-ends h last =
+      let e : k ≡ n = omega (arith, w .few) in
+      rw (w .comes, e, add-one, drop-cons t₀ n 0 (omega (arith, w .all))) (set-at (take n a) _ _ last n (length-take-le n a (w .all .0)))
+
+-- n starts that are kept, and the last end, are the boundaries
+pub copied : (s a t t′ : List ℕ) (n last : ℕ) → Kept s a → last ≡ lastEnd s → 1 ≤ fragmentCount s → n ≡ fragmentCount s → n ≤ length a
+    → t′ ≡ take n a ++ last ∷ drop (n + 1) t
+    → t′ ≡ boundaries s ++ drop (length (boundaries s)) t
+unfolding written
+copied s a t t′ n last k e m f l g =
+    let starts = map (startAt s) (fragments s) in
+    let h : take n a ≡ starts = ap (λ (j : ℕ). take j a) f ∙ k .starts (omega arith) in
+    let b : boundaries s ≡ starts ++ last ∷ [] = boundaries-written s m ∙ ap (λ (j : ℕ). starts ++ j ∷ []) (sym e) in
+    let i : n + 1 ≡ length (boundaries s) = omega (arith, length-boundaries s m) in
+    g
+    ∙ ap (λ (xs : List ℕ). xs ++ last ∷ drop (n + 1) t) h
+    ∙ sym (append-assoc starts (last ∷ []) (drop (n + 1) t))
+    ∙ rw (← b, i)
 
 -- a refusal's verdict with the table unchanged is the refusal's outcome
 pub refused-is : (t : List ℕ) (n k p : ℕ) {v : Verdict} → v ≡ record { number = n; track = k; place = p; count = 0; timescale = 0 }

@@ -1,8 +1,8 @@
 -- What each answer of the track check says, case by case, in the paper's numbers.
 use Prim.Native.Nat.{ℕ, _+_, _≤_}
 use mathlib.Core.Path.{_≡_}
-use mathlib.Core.List.{List, [], _∷_}
-use lib.ListN.{length}
+use mathlib.Core.List.{List, [], _∷_, map}
+use lib.ListN.{length, take}
 use Rattle.rules.specs.Rules.{_then_}
 use Rattle.rules.specs.Limits.{tickLimit}
 use Rattle.rules.specs.Header.{placesIn}
@@ -35,6 +35,10 @@ lastFrom s h end (x ∷ xs) = lastFrom s h (endAt s h x) xs
 unfoldable pub lastEnd : List ℕ → ℕ
 lastEnd s = lastFrom s (headerOf s) 0 (fragments s)
 
+-- a table keeps the starts of a track: if it has room for all of them, they stand at its front
+pub record Kept (s a : List ℕ) : Type 0 where
+  pub starts : fragmentCount s ≤ length a → take (fragmentCount s) a ≡ map (startAt s) (fragments s)
+
 -- the fragment at x: its rules hold, with its start and end; or the first that breaks
 abbrev pub saysAt : Fragment → List ℕ → Header → ℕ → ℕ → ℕ → Type 0
 saysAt (Rattle.fragment.specs.declared.Fragment.the-variants.Good f) s h k prev x =
@@ -45,14 +49,15 @@ saysAt (Rattle.fragment.specs.declared.Fragment.the-variants.Good f) s h k prev
 saysAt (Rattle.fragment.specs.declared.Fragment.the-variants.Refused n p) s h k prev x =
     (shapeAt s h x then timingAt s h k prev x) ≡ Breaks n 0 p
 
--- rules 14 to 22 of every fragment hold, with their number and the last end; or the first that breaks
-abbrev pub saysWalk : Walk → List ℕ → Header → Type 0
-saysWalk (Done count last) s h =
+-- rules 14 to 22 of every fragment hold, with their number, the last end and their starts in a table; or the first that breaks
+abbrev pub saysWalk : Walk → List ℕ → Header → List ℕ → Type 0
+saysWalk (Done count last) s h a =
     (rules14to22 s h 0 0 (fragments s) ≡ Holds)
     × (count ≡ fragmentCount s)
     × (last ≡ lastFrom s h 0 (fragments s))
     × (count ≤ length s)
-saysWalk (Cut n p) s h = rules14to22 s h 0 0 (fragments s) ≡ Breaks n 0 p
+    × Kept s a
+saysWalk (Cut n p) s h a = rules14to22 s h 0 0 (fragments s) ≡ Breaks n 0 p
 
 -- what the header check found of a track whose `moov` stands at a base
 abbrev pub headed : List ℕ → ℕ → Rattle.header.specs.declared.Facts.Facts → Type 0
@@ -75,7 +80,7 @@ pub record Known (s : List ℕ) (f : Facts) : Type 0 where
   pub mdhd : f .mdhd ≡ mdhdAt s
   pub last : f .last ≡ lastEnd s
 
--- every rule but room holds, with what is known; or the first that breaks
-abbrev pub saysJudged : Judged → List ℕ → Rule → Type 0
-saysJudged (Accepted f) s rule = (rule ≡ Holds) × Known s f
-saysJudged (Refused n p) s rule = rule ≡ Breaks n 0 p
+-- every rule but room holds, with what is known and what a table keeps; or the first that breaks
+abbrev pub saysJudged : Judged → List ℕ → List ℕ → Rule → Type 0
+saysJudged (Accepted f) s a rule = (rule ≡ Holds) × Known s f × Kept s a
+saysJudged (Refused n p) s a rule = rule ≡ Breaks n 0 p

@@ -1,14 +1,14 @@
 // The track check: every rule over one slice, then room, with the boundaries written to a lent table.
 ghost use mathlib.Core.Path.{_≡_};
-ghost use mathlib.Core.List.{_++_};
+ghost use mathlib.Core.List.{_∷_, _++_};
 ghost use Prim.Native.Nat.{_+_, _≤_};
-ghost use lib.ListN.{length, drop};
+ghost use lib.ListN.{length, take, drop};
 ghost use Rattle.rules.specs.Limits.{byteLimit};
 ghost use Rattle.rules.specs.Rules.{_then_};
 ghost use Rattle.rules.specs.Boxes.{sizeOf};
 ghost use Rattle.rules.specs.Order.{rule6};
 ghost use Rattle.rules.specs.Track.{moovAt, headerOf, fragments, fragmentCount, rules14to22, rulesOfHeader, ruling, timescale, boundaries, roomFor, trackOutcome};
-ghost use Rattle.track.specs.Says.{lastEnd, saysAt, saysWalk, headed, Known, saysJudged};
+ghost use Rattle.track.specs.Says.{lastEnd, saysAt, saysWalk, headed, Known, Kept, saysJudged};
 use boxes::Next;
 use boxes::kinds::MOOF;
 use boxes::kinds::MOOV;
@@ -20,6 +20,9 @@ use rules::Header;
 use rules::Verdict;
 
 pub mod order;
+
+// The starts that are kept while a track is checked: no track of 4,096 boxes has more fragments.
+pub const START_ROOM: usize = 582;
 
 // What is known of an accepted track: the places of `hdlr` and `mdhd` in it, and the last fragment's end.
 pub struct Facts {
@@ -60,10 +63,10 @@ fn fragment_at(s: &[u8], x: usize, mdat: usize, h: Header, k: u64, prev: u64) ->
     fragment::check(moof, x as u64, head, fields::less(d.size, head), h, k, prev)
 }
 
-// Rules 14 to 22 of n fragments, one by one.
-fn all_fragments(s: &[u8], h: Header, n: u64) -> Walk
+// Rules 14 to 22 of n fragments, one by one; each start is kept where the table has room.
+fn all_fragments(s: &[u8], h: Header, n: u64, starts: &mut [u64]) -> Walk
     requires { ⌜ (length (now s) ≤ byteLimit) × (n ≡ fragmentCount (now s)) ⌝ }
-    ensures { λ r. ⌜ saysWalk r (now (s .entry)) h ⌝ }
+    ensures { λ r. ⌜ saysWalk r (now (s .entry)) h (now (starts .exit)) ⌝ }
 {
     let mut at: usize = 0;
     let mut k: u64 = 0;
@@ -79,6 +82,9 @@ fn all_fragments(s: &[u8], h: Header, n: u64) -> Walk
         let f = fragment_at(s, place, next, h, k, prev);
         match f {
             Fragment::Good(x) => {
+                if k < starts.len() as u64 {
+                    starts[k as usize] = x.start;
+                }
                 prev = x.end;
                 k += 1;
                 at = next;
@@ -95,14 +101,14 @@ fn all_fragments(s: &[u8], h: Header, n: u64) -> Walk
 }
 
 // Rules 14 to 22, after the header.
-fn after_header(s: &[u8], base: u64, x: header::Facts, n: u64) -> Judged
+fn after_header(s: &[u8], base: u64, x: header::Facts, n: u64, starts: &mut [u64]) -> Judged
     requires { ⌜ (length (now s) ≤ byteLimit) × (base ≤ byteLimit) ⌝ }
     requires { ⌜ headed (now s) base x ⌝ }
     requires { ⌜ (1 ≤ fragmentCount (now s)) × (n ≡ fragmentCount (now s)) ⌝ }
-    ensures { λ r. ⌜ saysJudged r (now (s .entry)) (rules14to22 (now (s .entry)) (headerOf (now (s .entry))) 0 0 (fragments (now (s .entry)))) ⌝ }
+    ensures { λ r. ⌜ saysJudged r (now (s .entry)) (now (starts .exit)) (rules14to22 (now (s .entry)) (headerOf (now (s .entry))) 0 0 (fragments (now (s .entry)))) ⌝ }
 {
     let h = x.header;
-    match all_fragments(s, h, n) {
+    match all_fragments(s, h, n, starts) {
         Walk::Done { count, last } => Judged::Accepted(Facts {
             fragments: count,
             timescale: h.timescale,
@@ -128,27 +134,27 @@ fn moov_at(s: &[u8]) -> usize
 }
 
 // Rules 7 to 22, after the order, which counted n fragments.
-fn after_order(s: &[u8], n: u64) -> Judged
+fn after_order(s: &[u8], n: u64, starts: &mut [u64]) -> Judged
     requires { ⌜ length (now s) ≤ byteLimit ⌝ }
     requires { ⌜ (1 ≤ fragmentCount (now s)) × (n ≡ fragmentCount (now s)) ⌝ }
-    ensures { λ r. ⌜ saysJudged r (now (s .entry)) (rulesOfHeader (now (s .entry)) then rules14to22 (now (s .entry)) (headerOf (now (s .entry))) 0 0 (fragments (now (s .entry)))) ⌝ }
+    ensures { λ r. ⌜ saysJudged r (now (s .entry)) (now (starts .exit)) (rulesOfHeader (now (s .entry)) then rules14to22 (now (s .entry)) (headerOf (now (s .entry))) 0 0 (fragments (now (s .entry)))) ⌝ }
 {
     let base = moov_at(s);
     let ftyp = fields::whole(s, 0);
     let moov = fields::whole(s, base);
     match header::check(ftyp, moov, base as u64) {
-        Headed::Good(x) => after_header(s, base as u64, x, n),
+        Headed::Good(x) => after_header(s, base as u64, x, n, starts),
         Headed::Refused { number, place } => Judged::Refused { number, place },
     }
 }
 
 // Rules 6 to 22, after the framing.
-fn after_framing(s: &[u8]) -> Judged
+fn after_framing(s: &[u8], starts: &mut [u64]) -> Judged
     requires { ⌜ length (now s) ≤ byteLimit ⌝ }
-    ensures { λ r. ⌜ saysJudged r (now (s .entry)) (rule6 (now (s .entry)) then rulesOfHeader (now (s .entry)) then rules14to22 (now (s .entry)) (headerOf (now (s .entry))) 0 0 (fragments (now (s .entry)))) ⌝ }
+    ensures { λ r. ⌜ saysJudged r (now (s .entry)) (now (starts .exit)) (rule6 (now (s .entry)) then rulesOfHeader (now (s .entry)) then rules14to22 (now (s .entry)) (headerOf (now (s .entry))) 0 0 (fragments (now (s .entry)))) ⌝ }
 {
     match order::order(s) {
-        Ordered::Good(n) => after_order(s, n),
+        Ordered::Good(n) => after_order(s, n, starts),
         Ordered::Wrong(place) => Judged::Refused {
             number: 6,
             place: place as u64,
@@ -156,9 +162,9 @@ fn after_framing(s: &[u8]) -> Judged
     }
 }
 
-// Every rule of a track but room.
-pub fn judge(s: &[u8]) -> Judged
-    ensures { λ r. ⌜ saysJudged r (now (s .entry)) (ruling (now (s .entry))) ⌝ }
+// Every rule of a track but room; an accepted track's starts are kept in the table, if it has room for all.
+pub fn judge(s: &[u8], starts: &mut [u64]) -> Judged
+    ensures { λ r. ⌜ saysJudged r (now (s .entry)) (now (starts .exit)) (ruling (now (s .entry))) ⌝ }
 {
     if BYTE_LIMIT < s.len() {
         return Judged::Refused {
@@ -167,7 +173,7 @@ pub fn judge(s: &[u8]) -> Judged
         };
     }
     match framing::frame(s) {
-        Framing::Framed(_) => after_framing(s),
+        Framing::Framed(_) => after_framing(s, starts),
         Framing::Misframed { number, place } => Judged::Refused {
             number,
             place: place as u64,
@@ -186,6 +192,19 @@ pub fn refused(number: u64, track: u64, place: u64) -> Verdict
         count: 0,
         timescale: 0,
     }
+}
+
+// Writes n kept starts, and the last end, at the front of the table.
+fn copy_boundaries(starts: &[u64], last: u64, n: usize, t: &mut [u64])
+    requires { ⌜ (n ≤ length (now starts)) × (n + 1 ≤ length (now t)) ⌝ }
+    ensures { λ _. ⌜ now (t .exit) ≡ take n (now (starts .entry)) ++ last ∷ drop (n + 1) (now (t .entry)) ⌝ }
+{
+    let mut k: usize = 0;
+    while k < n {
+        t[k] = starts[k];
+        k += 1;
+    }
+    t[k] = last;
 }
 
 // The boundaries of an accepted track of n fragments: each start, and the last end, at the front of the table.
@@ -208,16 +227,20 @@ fn write_boundaries(s: &[u8], last: u64, n: usize, t: &mut [u64])
     t[k] = last;
 }
 
-// An accepted track: room, and the boundaries.
-pub fn accept(s: &[u8], f: Facts, t: &mut [u64]) -> Verdict
-    requires { ⌜ Known (now s) f ⌝ }
+// An accepted track: room, and the boundaries, by the starts that were kept if the table had room for all.
+pub fn accept(s: &[u8], f: Facts, starts: &[u64], t: &mut [u64]) -> Verdict
+    requires { ⌜ Known (now s) f × Kept (now s) (now starts) ⌝ }
     ensures { λ r. ⌜ record { verdict = r; table = now (t .exit) } ≡ roomFor (fragmentCount (now (s .entry))) (timescale (now (s .entry))) (boundaries (now (s .entry))) (now (t .entry)) ⌝ }
 {
     let n = f.fragments;
     if (t.len() as u64) <= n {
         return refused(23, 0, 0);
     }
-    write_boundaries(s, f.last, n as usize, t);
+    if n <= starts.len() as u64 {
+        copy_boundaries(starts, f.last, n as usize, t);
+    } else {
+        write_boundaries(s, f.last, n as usize, t);
+    }
     Verdict {
         number: 0,
         track: 0,
@@ -231,8 +254,9 @@ pub fn accept(s: &[u8], f: Facts, t: &mut [u64]) -> Verdict
 pub fn track(s: &[u8], t: &mut [u64]) -> Verdict
     ensures { λ r. ⌜ record { verdict = r; table = now (t .exit) } ≡ trackOutcome (now (s .entry)) (now (t .entry)) ⌝ }
 {
-    match judge(s) {
+    let mut starts = [0u64; START_ROOM];
+    match judge(s, &mut starts) {
         Judged::Refused { number, place } => refused(number, 0, place),
-        Judged::Accepted(f) => accept(s, f, t),
+        Judged::Accepted(f) => accept(s, f, &starts, t),
     }
 }

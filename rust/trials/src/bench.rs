@@ -39,6 +39,7 @@ pub fn bench(tried: Judge) -> Result<(), String> {
         ("509 fragments, a box behind", unusual(Dress::BoxBehind)),
         ("509 fragments of two runs", unusual(Dress::TwoRuns)),
         ("582 fragments, long headers", unusual(Dress::LongHeaders)),
+        ("582 fragments, backwards", unusual(Dress::Backwards)),
         ("4,070 runs", many_runs()),
     ] {
         worst = worst.max(bench_track(tried, name, boxes)?);

@@ -53,7 +53,7 @@ pub fn large(bytes: usize, shape: Shape) -> Vec<Node> {
 pub fn unusual(dress: Dress) -> Vec<Node> {
     let fragments = match dress {
         Dress::BoxBehind | Dress::TwoRuns => (MAX_BOXES - 20) / 8,
-        Dress::LongHeaders => MAX_FRAGMENTS,
+        Dress::LongHeaders | Dress::Backwards => MAX_FRAGMENTS,
     };
     let mut track = planned(0, (fragments, 1));
     if let Dress::TwoRuns = dress {
@@ -79,6 +79,8 @@ pub enum Dress {
     TwoRuns,
     /// The long header, in every box.
     LongHeaders,
+    /// The boxes of `moof` and of `traf`, last to first.
+    Backwards,
 }
 
 impl Dress {
@@ -93,6 +95,12 @@ impl Dress {
             Dress::LongHeaders => {
                 moof.header = Header::Long;
                 if let Content::Boxes(inside) = &mut moof.content {
+                    inside.iter_mut().for_each(|node| self.put_on(node));
+                }
+            }
+            Dress::Backwards => {
+                if let Content::Boxes(inside) = &mut moof.content {
+                    inside.reverse();
                     inside.iter_mut().for_each(|node| self.put_on(node));
                 }
             }
@@ -175,6 +183,8 @@ pub fn bundle(tracks: &[&[Node]]) -> Vec<Node> {
 #[derive(Clone, Copy)]
 pub enum State {
     Good,
+    /// The last fragment ends a tick off: good by itself, rule 28 in a set.
+    OtherEnd,
     /// In the last data box: rule 22, after every sum.
     SpareByte,
     /// After the last box: rule 2, or 5 in a track of 4,096 boxes.
@@ -182,11 +192,12 @@ pub enum State {
 }
 
 impl State {
-    pub const ALL: [State; 3] = [State::Good, State::SpareByte, State::StrayByte];
+    pub const ALL: [State; 4] = [State::Good, State::OtherEnd, State::SpareByte, State::StrayByte];
 
     pub fn name(self) -> &'static str {
         match self {
             State::Good => "good",
+            State::OtherEnd => "other end",
             State::SpareByte => "spare byte",
             State::StrayByte => "stray byte",
         }
@@ -195,6 +206,16 @@ impl State {
     pub fn apply(self, boxes: &mut Vec<Node>) {
         match self {
             State::Good => (),
+            State::OtherEnd => {
+                let last = |boxes: &mut [Node], kind: &[u8; 4]| {
+                    boxes.iter().rposition(|node| node.kind == *kind).expect("a fragment's box")
+                };
+                let moof = last(boxes, b"moof");
+                let traf = last(boxes[moof].boxes(), b"traf");
+                let traf = boxes[moof].boxes()[traf].boxes();
+                let trun = last(traf, b"trun");
+                nudge_duration(traf[trun].body());
+            }
             State::SpareByte => {
                 let mdat = boxes.iter_mut().rfind(|node| node.kind == *b"mdat");
                 if let Content::Zeros(len) = &mut mdat.expect("a data box").content {
@@ -203,5 +224,14 @@ impl State {
             }
             State::StrayByte => boxes.push(Node::bare(vec![0])),
         }
+    }
+}
+
+/// Changes the first sample's duration by one, where the run carries durations.
+fn nudge_duration(run: &mut [u8]) {
+    let flags = u32::from_be_bytes([0, run[1], run[2], run[3]]);
+    if flags & 0x100 != 0 {
+        let optional = [0x1, 0x4].iter().filter(|bit| flags & **bit != 0).count();
+        run[8 + 4 * optional + 3] ^= 1;
     }
 }

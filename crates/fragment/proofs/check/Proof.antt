@@ -1,26 +1,23 @@
 -- `fragment::check` meets its contract. Assumes nothing.
 use native.Mathlib.Omega.{arith}
-use denote.Ref.{now}
-use Rattle.fragment.proofs.Judged.{timed-says}
-use Rattle.rules.proofs.Then.{then-holds, then-breaks}
 use borrow.Author.Needs.{needs}
+use denote.Ref.{now}
+use Rattle.rules.proofs.Then.{then-holds, then-breaks}
+use Rattle.fragment.proofs.Judged.{timed-says}
 use Rattle.fragment.proofs.check.Statement.{statement}
 use Rattle.fragment.proofs.check.Tie as tie
-
-returns : tie.Need-returns
-returns c = rw (c .before .quick .given .1) at (c .before .before .before .quick-check .ensures)
 
 time-requires : tie.Need-time-requires
 time-requires c κs =
     let r = rw (c .before .answer2 .given .1) at (c .before .before .before .shape-of .ensures) in
-    (omega (arith, c .before .before .before .before .before .before .before .before .before .pre, r .1 .runs .ticksLow), r .1 .stand)
+    (omega (arith, c .before .before .before .before .before .pre, r .1 .runs .ticksLow), r .1 .stand)
+
+returns : tie.Need-returns
+returns c = then-breaks _ (rw (c .before .answer .given .1) at (c .before .before .before .shape-of .ensures))
 
 returns-2 : tie.Need-returns-2
-returns-2 c = then-breaks _ (rw (c .before .answer .given .1) at (c .before .before .before .shape-of .ensures))
-
-returns-3 : tie.Need-returns-3
-returns-3 c =
-    let a = c .before .before .before .before .before .before .before .before .before .before .args in
+returns-2 c =
+    let a = c .before .before .before .before .before .before .args in
     let s = c .before .before .answer2 in
     let r = rw (s .given .1) at (c .before .before .before .before .shape-of .ensures) in
     rw (then-holds _ (r .0))
@@ -31,13 +28,8 @@ check-spec =
     tie.close
     (tie.spec
     (λ c κs. search needs)
-    (λ c κs. search needs)
-    (λ c. search needs)
-    returns
-    (λ c. search needs)
-    (λ c κs. search needs)
     (λ c. search needs)
     (λ c. search needs)
     time-requires
-    returns-2
-    returns-3)
+    returns
+    returns-2)

@@ -1,5 +1,5 @@
 -- `fragment::start_of` meets its contract. Assumes nothing.
-use mathlib.Core.Path.{sym, ap, _∙_}
+use mathlib.Core.Path.{ap, _∙_}
 use Prim.Native.Nat.{ℕ}
 use borrow.Author.Needs.{needs}
 use denote.Ref.{now}
@@ -12,14 +12,8 @@ use Rattle.fragment.proofs.start_of.Tie as tie
 
 returns : tie.Need-returns
 returns c =
-    let m = now (c .before .before .before .before .before .before .args .m) in
-    let u = rw (c .before .before .layout .given .1) at (c .before .before .before .before .usual-of .ensures) in
-    c .time-at .ensures ∙ ap (timeAt m) (sym (u .tfdt)) ∙ start-is m
-
-returns-2 : tie.Need-returns-2
-returns-2 c =
-    let m = now (c .before .before .before .before .before .before .before .args .m) in
-    c .time-at2 .ensures
+    let m = now (c .before .before .before .before .args .m) in
+    c .time-at .ensures
     ∙ ap (timeAt m) (c .before .child-of2 .ensures .is ∙ ap (λ (t : ℕ). child m t tfdt) (c .before .before .child-of .ensures .is))
     ∙ start-is m
 
@@ -28,11 +22,6 @@ start-of-spec =
     tie.close
     (tie.spec
     (λ c κs. search needs)
-    (λ c. search needs)
-    (λ c κs. search needs)
-    (λ c. search needs)
     (λ c κs. search needs)
     (λ c κs. search needs)
-    (λ c κs. search needs)
-    returns
-    returns-2)
+    returns)

@@ -13,26 +13,32 @@ use Rattle.track.proofs.after_order.Tie as tie
 
 check-requires : tie.Need-check-requires
 check-requires c κs =
-    let f : length (now (c .whole2 .result)) ≤ length (now (c .before .before .before .before .args .s)) = whole-fits _ _ _ (c .whole2 .ensures) in
-    omega (arith, c .before .before .moov-at .ensures .1, c .before .before .before .before .pre .0)
+    let f : length (now (c .whole2 .result)) ≤ length (now (c .before .before .before .before .before .args .s)) = whole-fits _ _ _ (c .whole2 .ensures) in
+    omega (arith, c .before .before .moov-at .ensures .1, c .before .before .before .before .before .pre .0)
 
 after-header-requires : tie.Need-after-header-requires
 after-header-requires c κs =
-    let k = c .before .before .before .check .ensures in
-    let f : length (now (c .before .before .before .before .whole2 .result)) ≤ byteLimit = omega (arith, whole-fits _ _ _ (c .before .before .before .before .whole2 .ensures), c .before .before .before .before .before .before .before .before .pre .0) in
-    let g = header-good (now (c .before .before .before .before .before .before .before .before .args .s)) _ _ _ (c .before .before .before .before .before .before .moov-at .ensures .0) (c .before .before .before .before .before .whole .ensures) (c .before .before .before .before .whole2 .ensures) (rw (c .before .x .given .1) at (k .0)) (rw (c .before .x .given .1) at (k .1)) f in
-    (omega (arith, c .before .before .before .before .before .before .moov-at .ensures .1, c .before .before .before .before .before .before .before .before .pre .0), (g .1, c .before .before .before .before .before .before .before .before .pre .1))
+    let a = c .before .before .before .before .before .before .before .before .before .before .args in
+    let p = c .before .before .before .before .before .before .before .before .before .before .pre in
+    let k = c .before .before .before .before .check .ensures in
+    let m = c .before .before .before .before .before .whole2 in
+    let f : length (now (m .result)) ≤ byteLimit = omega (arith, whole-fits _ _ _ (m .ensures), p .0) in
+    let g = header-good (now (a .s)) _ _ _ (c .before .before .before .before .before .before .before .moov-at .ensures .0) (c .before .before .before .before .before .before .whole .ensures) (m .ensures) (rw (c .before .before .x .given .1) at (k .0)) (rw (c .before .before .x .given .1) at (k .1)) f in
+    (omega (arith, c .before .before .before .before .before .before .before .moov-at .ensures .1, p .0), (g .1, p .1))
 
 returns : tie.Need-returns
 returns c =
-    let k = c .before .before .before .before .check .ensures in
-    let f : length (now (c .before .before .before .before .before .whole2 .result)) ≤ byteLimit = omega (arith, whole-fits _ _ _ (c .before .before .before .before .before .whole2 .ensures), c .before .before .before .before .before .before .before .before .before .pre .0) in
-    let g = header-good (now (c .before .before .before .before .before .before .before .before .before .args .s)) _ _ _ (c .before .before .before .before .before .before .before .moov-at .ensures .0) (c .before .before .before .before .before .before .whole .ensures) (c .before .before .before .before .before .whole2 .ensures) (rw (c .before .before .x .given .1) at (k .0)) (rw (c .before .before .x .given .1) at (k .1)) f in
-    rw (then-holds _ (g .0)) (c .after-header .ensures)
+    let a = c .before .before .before .before .before .before .before .before .before .before .before .before .before .args in
+    let p = c .before .before .before .before .before .before .before .before .before .before .before .before .before .pre in
+    let k = c .before .before .before .before .before .before .before .check .ensures in
+    let m = c .before .before .before .before .before .before .before .before .whole2 in
+    let f : length (now (m .result)) ≤ byteLimit = omega (arith, whole-fits _ _ _ (m .ensures), p .0) in
+    let g = header-good (now (a .s)) _ _ _ (c .before .before .before .before .before .before .before .before .before .before .moov-at .ensures .0) (c .before .before .before .before .before .before .before .before .before .whole .ensures) (m .ensures) (rw (c .before .before .before .before .before .x .given .1) at (k .0)) (rw (c .before .before .before .before .before .x .given .1) at (k .1)) f in
+    rw (then-holds _ (g .0)) (c .before .before .after-header .ensures)
 
 returns-2 : tie.Need-returns-2
 returns-2 c =
-    then-breaks _ (header-bad (now (c .before .before .before .before .before .before .before .before .args .s)) _ _ _ (c .before .before .before .before .before .before .moov-at .ensures .0) (c .before .before .before .before .before .whole .ensures) (c .before .before .before .before .whole2 .ensures) (rw (c .before .number .given .1) at (c .before .before .before .check .ensures .0)))
+    then-breaks _ (header-bad (now (c .before .before .before .before .before .before .before .before .before .args .s)) _ _ _ (c .before .before .before .before .before .before .moov-at .ensures .0) (c .before .before .before .before .before .whole .ensures) (c .before .before .before .before .whole2 .ensures) (rw (c .before .number .given .1) at (c .before .before .before .check .ensures .0)))
 
 pub after-order-spec : {M : Type 1} → statement M
-after-order-spec = tie.close (tie.spec (λ c κs. search needs) (λ c κs. search needs) (λ c κs. search needs) check-requires (λ c. search needs) after-header-requires (λ c. search needs) returns returns-2)
+after-order-spec = tie.close (tie.spec (λ c κs. search needs) (λ c κs. search needs) (λ c κs. search needs) check-requires (λ c. search needs) after-header-requires (λ c. search needs) (λ c. search needs) returns returns-2)

@@ -6,35 +6,31 @@ use denote.Ref.{now}
 use Rattle.rules.specs.Fragment.{trafIn}
 use Rattle.rules.proofs.Then.{then-holds, then-breaks}
 use Rattle.fragment.proofs.Standing.{rule14-is}
-use Rattle.fragment.proofs.Usually.{usual-found}
 use Rattle.fragment.proofs.counts.find_boxes.Statement.{statement}
 use Rattle.fragment.proofs.counts.find_boxes.Tie as tie
-
-returns : tie.Need-returns
-returns c = let s = c .before .before .before .before in usual-found (rw (c .before .layout .given .1) at (s .pre .1)) (s .args .base)
 
 in-traf-requires : tie.Need-in-traf-requires
 in-traf-requires c κs =
     let o = rw (c .before .outer2 .given .1) at (c .before .before .before .in-moof .ensures) in
-    omega (arith, c .before .before .before .before .before .before .before .pre .0, o .2 .low)
+    omega (arith, c .before .before .before .before .before .pre, o .2 .low)
+
+returns : tie.Need-returns
+returns c =
+    let a = c .before .before .before .before .before .args in
+    rule14-is (a .base) (now (a .m)) (trafIn (now (a .m))) refl ∙ then-breaks _ (rw (c .before .outer .given .1) at (c .before .before .before .in-moof .ensures))
 
 returns-2 : tie.Need-returns-2
 returns-2 c =
-    let a = c .before .before .before .before .before .before .before .args in
-    rule14-is (a .base) (now (a .m)) (trafIn (now (a .m))) refl ∙ then-breaks _ (rw (c .before .outer .given .1) at (c .before .before .before .in-moof .ensures))
-
-returns-3 : tie.Need-returns-3
-returns-3 c =
     let k = c .before .before .before .before in
-    let a = k .before .before .before .before .before .before .before .args in
+    let a = k .before .before .before .before .before .args in
     let o = rw (k .before .outer2 .given .1) at (k .before .before .before .in-moof .ensures) in
     let i = rw (c .before .inner .given .1) at (c .before .before .before .in-traf .ensures) in
     rule14-is (a .base) (now (a .m)) (k .before .outer2 .given .0 .1 .0) (o .2 .is) ∙ then-holds _ (o .0) ∙ i
 
-returns-4 : tie.Need-returns-4
-returns-4 c =
+returns-3 : tie.Need-returns-3
+returns-3 c =
     let k = c .before .before .before .before in
-    let a = k .before .before .before .before .before .before .before .args in
+    let a = k .before .before .before .before .before .args in
     let o = rw (k .before .outer2 .given .1) at (k .before .before .before .in-moof .ensures) in
     let i = rw (c .before .inner2 .given .1) at (c .before .before .before .in-traf .ensures) in (
       rule14-is (a .base) (now (a .m)) (k .before .outer2 .given .0 .1 .0) (o .2 .is) ∙ then-holds _ (o .0) ∙ i .0,
@@ -45,15 +41,12 @@ pub find-boxes-spec : {M : Type 1} → statement M
 find-boxes-spec =
     tie.close
     (tie.spec
-    (λ c. search needs)
-    returns
-    (λ c. search needs)
     (λ c κs. search needs)
     (λ c. search needs)
     (λ c. search needs)
     in-traf-requires
     (λ c. search needs)
     (λ c. search needs)
+    returns
     returns-2
-    returns-3
-    returns-4)
+    returns-3)

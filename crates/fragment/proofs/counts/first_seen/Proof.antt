@@ -1,29 +1,20 @@
 -- `fragment::counts::first_seen` meets its contract. Assumes nothing.
-use borrow.Author.Needs.{needs}
+use mathlib.Core.Path.{sym}
 use Rattle.rules.specs.Header.{someOf}
-use mathlib.Core.Path.{refl}
+use Rattle.fragment.proofs.First.{since-first, since-some}
+use Rattle.fragment.proofs.Counted.{sees-none, sees-some}
 use Rattle.fragment.proofs.counts.first_seen.Statement.{statement}
 use Rattle.fragment.proofs.counts.first_seen.Tie as tie
 
 returns : tie.Need-returns
 unfolding someOf
-returns c = rw (c .enum-told .given .1)
+returns c = rw (sees-none (c .before .before .args .v) (c .if1 .taken))
 
 returns-2 : tie.Need-returns-2
-unfolding someOf
-returns-2 c = rw (c .before .v .given .1) (refl, refl)
-
-returns-3 : tie.Need-returns-3
-unfolding someOf
-returns-3 c = rw (c .before .v2 .given .1) (refl, refl)
+returns-2 c =
+    let a = c .before .before .args in
+    let s = sees-some (a .v) (c .if1 .left) in
+    (since-some 14 (a .container) s, sym (since-first s))
 
 pub first-seen-spec : {M : Type 1} → statement M
-first-seen-spec =
-    tie.close
-    (tie.spec
-    (λ c. search needs)
-    (λ c. search needs)
-    (λ c. search needs)
-    returns
-    returns-2
-    returns-3)
+first-seen-spec = tie.close (tie.spec returns returns-2)

@@ -1,40 +1,42 @@
 -- `fragment::counts::tally` meets its contract. Assumes nothing.
-use Prim.Native.Nat.{_-_}
+use Prim.Native.Nat.{_-_, _<_}
 use mathlib.Core.Logic.{⊎-elim}
 use native.Mathlib.Omega.{arith}
 use lib.ListN.{length}
 use borrow.Author.Needs.{needs}
-use Rattle.boxes.proofs.Walks.{over, found, Going, going-none, going-hit, going-miss, going-all}
+use Rattle.boxes.proofs.Walks.{over, found}
+use Rattle.fragment.proofs.Counted.{Going, going-none, going-hit, going-miss, going-all}
 use Rattle.fragment.proofs.counts.tally.Statement.{statement}
 use Rattle.fragment.proofs.counts.tally.Tie as tie
 
 abbrev Inv-loop : tie.InvT-loop
-Inv-loop s v w x at₀ a₀ b₀ c₀ at a b c = Going s at v a × Going s at w b × Going s at x c
+Inv-loop s from v w x at₀ a₀ b₀ c₀ at a b c = (0 < at) × Going s from at v a × Going s from at w b × Going s from at x c
 
 abbrev μ-loop : tie.MeasureT-loop
-μ-loop s v w x at₀ a₀ b₀ c₀ at a b c = length s - at
+μ-loop s from v w x at₀ a₀ b₀ c₀ at a b c = length s - at
 
 loop-holds : tie.Need-loop-holds Inv-loop μ-loop
-loop-holds c = (going-none _ _, going-none _ _, going-none _ _)
+loop-holds c = (omega arith, going-none _ _ _, going-none _ _ _, going-none _ _ _)
 
 returns : tie.Need-returns Inv-loop μ-loop
 returns c =
     let o = over _ _ _ (c .before .look .ensures .0) (c .match .keys2) in
     let i = c .before .before .loop .inv in
-    record { a = going-all (i .0) o; b = going-all (i .1) o; c = going-all (i .2) o }
+    record { a = going-all (i .1) o; b = going-all (i .2) o; c = going-all (i .3) o }
 
 add-at : tie.Need-add-at Inv-loop μ-loop
-add-at c = omega (arith, found _ _ (c .before .before .before .before .before .before .before .before .before .look .ensures .0) (c .before .before .before .before .before .before .before .l .given .1))
+add-at c = omega (arith, found _ _ (c .before .before .before .before .before .before .look .ensures .0) (c .before .before .before .before .l .given .1))
 
 loop-less : tie.Need-loop-less Inv-loop μ-loop
-loop-less c = omega (arith, found _ _ (c .before .before .before .before .before .before .before .before .before .look .ensures .0) (c .before .before .before .before .before .before .before .l .given .1))
+loop-less c = omega (arith, found _ _ (c .before .before .before .before .before .before .look .ensures .0) (c .before .before .before .before .l .given .1))
 
 loop-again : tie.Need-loop-again Inv-loop μ-loop
 loop-again c =
-    let i = c .before .before .before .before .before .before .before .before .before .before .loop .inv in
-    let e = c .before .before .before .before .before .before .before .before .before .look .ensures .0 in
-    let t = c .before .before .before .before .before .before .before .l .given .1 in
-    (⊎-elim (λ x. going-hit _ _ e t (i .0) (c .before .before .before .before .before .named .ensures) (x .0 .taken) (x .1 .ensures) (x .2)) (λ x. going-miss _ _ e t (i .0) (c .before .before .before .before .before .named .ensures) (x .0 .left) (x .1)) (c .before .before .before .before .if1 .came), ⊎-elim (λ x. going-hit _ _ e t (i .1) (c .before .before .before .named2 .ensures) (x .0 .taken) (x .1 .ensures) (x .2)) (λ x. going-miss _ _ e t (i .1) (c .before .before .before .named2 .ensures) (x .0 .left) (x .1)) (c .before .before .if2 .came), ⊎-elim (λ x. going-hit _ _ e t (i .2) (c .before .named3 .ensures) (x .0 .taken) (x .1 .ensures) (x .2)) (λ x. going-miss _ _ e t (i .2) (c .before .named3 .ensures) (x .0 .left) (x .1)) (c .if3 .came))
+    let p = c .before .before .before .before .before .before .before .before .before .pre in
+    let i = c .before .before .before .before .before .before .before .loop .inv in
+    let e = c .before .before .before .before .before .before .look .ensures .0 in
+    let t = c .before .before .before .before .l .given .1 in
+    (omega (arith, i .0), ⊎-elim (λ x. going-hit _ _ e t (p .1) (i .1) (x .0 .taken) (x .1 .ensures) (x .2)) (λ x. going-miss _ _ e t (p .1) (i .1) (x .0 .left) (x .1)) (c .before .before .if1 .came), ⊎-elim (λ x. going-hit _ _ e t (p .2) (i .2) (x .0 .taken) (x .1 .ensures) (x .2)) (λ x. going-miss _ _ e t (p .2) (i .2) (x .0 .left) (x .1)) (c .before .if2 .came), ⊎-elim (λ x. going-hit _ _ e t (p .3) (i .3) (x .0 .taken) (x .1 .ensures) (x .2)) (λ x. going-miss _ _ e t (p .3) (i .3) (x .0 .left) (x .1)) (c .if3 .came))
 
 pub tally-spec : {M : Type 1} → statement M
 tally-spec =
@@ -46,9 +48,6 @@ tally-spec =
     (λ c κs. search needs)
     (λ c. search needs)
     returns
-    (λ c κs. search needs)
-    (λ c κs. search needs)
-    (λ c κs. search needs)
     (λ c κs. search needs)
     (λ c κs. search needs)
     (λ c κs. search needs)

@@ -4,8 +4,7 @@ use native.Mathlib.Omega.{arith}
 use borrow.Author.Needs.{needs}
 use denote.Ref.{now}
 use Rattle.rules.proofs.Then.{then-holds, then-breaks}
-use Rattle.fragment.specs.Told.{ruleOf}
-use Rattle.fragment.specs.Shape.{rules15to18}
+use Rattle.fragment.specs.Shape.{ruleOf, rules15to18}
 use Rattle.fragment.proofs.Judged.{settled-is, settled-few}
 use Rattle.fragment.proofs.shape.judge.Statement.{statement}
 use Rattle.fragment.proofs.shape.judge.Tie as tie

@@ -1,13 +1,11 @@
 -- `fragment::timing::span` meets its contract. Assumes nothing.
-use mathlib.Core.Path.{_≡_, refl, sym, ap, _∙_}
+use mathlib.Core.Path.{refl, sym, _∙_}
 use native.Mathlib.Omega.{arith}
-use lib.ListN.{length}
 use borrow.Author.Needs.{needs}
-use borrow.Author.Tests.{not-true, not-false}
-use denote.Ref.{now}
+use borrow.Author.Tests.{not-true, not-false, eq-eqb, ne-eqb}
 use Rattle.rules.proofs.Then.{then-holds, then-breaks, must-true, must-false}
-use Rattle.fragment.specs.Told.{ruleOf}
 use Rattle.fragment.specs.Timing.{spanned}
+use Rattle.fragment.proofs.Judged.{at-none, at-some, spanned-on}
 use Rattle.fragment.proofs.timing.span.Statement.{statement}
 use Rattle.fragment.proofs.timing.span.Tie as tie
 
@@ -25,26 +23,37 @@ returns-2 c =
     let e = rw (l .last .given .1) at (l .before .before .end-at .ensures) in
     then-holds _ (must-true 20 _ (e .0)) ∙ then-breaks _ (must-false 21 _ (sym (c .before .is-sync .ensures) ∙ not-true _ (c .if1 .taken)))
 
--- what the three come to where 20 and 21 hold
-rest : (c : tie.After-also) → spanned (c .before .before .before .before .before .before .before .before .before .before .before .args .base) (length (now (c .before .before .before .before .before .before .before .before .before .before .before .args .m))) (c .before .before .before .before .before .before .before .before .before .before .before .args .payload) (c .before .before .before .before .before .before .before .before .before .before .before .args .s) ≡ ruleOf (c .also .result)
-unfolding spanned
-rest c =
-    let i = c .before .before in
+returns-3 : tie.Need-returns-3
+returns-3 c =
+    let i = c .before in
     let l = i .before .before .before in
     let e = rw (l .last .given .1) at (l .before .before .end-at .ensures) in
-    then-holds _ (must-true 20 _ (e .0))
-    ∙ then-holds _ (must-true 21 _ (sym (i .before .is-sync .ensures) ∙ not-false _ (i .if1 .left)))
-    ∙ sym (c .also .ensures)
-
-returns-3 : tie.Need-returns-3
-returns-3 c = rest (c .before .before .before) ∙ ap ruleOf (c .before .tiled .given .1)
+    spanned-on _ _ _ _ (e .0) (sym (i .before .is-sync .ensures) ∙ not-false _ (i .if1 .left))
+    ∙ then-breaks _ (at-some 22 _ (c .if2 .taken))
 
 returns-4 : tie.Need-returns-4
 returns-4 c =
-    let f = c .before .before in
-    let l = f .before .before .before .before .before in
+    let t = c .before .before in
+    let i = t .before in
+    let l = i .before .before .before in
     let e = rw (l .last .given .1) at (l .before .before .end-at .ensures) in
-    (rest f ∙ ap ruleOf (c .enum-told2 .given .1), refl, e .1, e .2)
+    spanned-on _ _ _ _ (e .0) (sym (i .before .is-sync .ensures) ∙ not-false _ (i .if1 .left))
+    ∙ then-holds _ (at-none 22 _ (t .if2 .left))
+    ∙ must-false 22 _ (ne-eqb _ _ (c .if3 .taken))
+
+returns-5 : tie.Need-returns-5
+returns-5 c =
+    let t = c .before .before in
+    let i = t .before in
+    let l = i .before .before .before in
+    let e = rw (l .last .given .1) at (l .before .before .end-at .ensures) in (
+      spanned-on _ _ _ _ (e .0) (sym (i .before .is-sync .ensures) ∙ not-false _ (i .if1 .left))
+          ∙ then-holds _ (at-none 22 _ (t .if2 .left))
+          ∙ must-true 22 _ (eq-eqb _ _ (c .if3 .left)),
+      refl,
+      e .1,
+      e .2,
+    )
 
 pub span-spec : {M : Type 1} → statement M
 span-spec =
@@ -57,9 +66,7 @@ span-spec =
     returns
     (λ c κs. search needs)
     returns-2
-    (λ c. search needs)
-    (λ c κs. search needs)
-    (λ c. search needs)
-    (λ c. search needs)
     returns-3
-    returns-4)
+    (λ c. search needs)
+    returns-4
+    returns-5)

@@ -1,0 +1,67 @@
+-- Laws of one run whose header is known: what its bytes say of its size.
+use mathlib.Core.Path.{_≡_, refl, ap, _∙_}
+use mathlib.Core.List.{List}
+use mathlib.Core.Bool.{Bool, true, false}
+use Prim.Native.Nat.{ℕ, _+_, _-_, _*_, _<_, _≤_}
+use native.Mathlib.Omega.{arith}
+use lib.Dec.{leb, eqb}
+use borrow.Author.Tests.{lt-leb, le-leb, eq-eqb, ne-eqb}
+use Rattle.numbers.specs.Numbers.{byte, be3, be4, when}
+use Rattle.rules.specs.Header.{shortSize, version, field}
+use Rattle.rules.specs.Fragment.{flagsOf, runHead, stride, countOf, runSized}
+use Rattle.fragment.specs.Runs.{Framed, saysTrun}
+use Rattle.fragment.specs.declared.runs.Trun.the-variants.{Run, Wrong}
+
+-- the bytes before the samples' fields hold the version, the flags and the count
+head-low : (f : ℕ) → 8 ≤ runHead f
+unfolding runHead
+head-low f = omega arith
+
+module _ (m : List ℕ) (r h z : ℕ) (d : Framed m r h z) where
+  short : shortSize m r ≡ z - h + 8
+  unfolding shortSize
+  short = rw (d .head, d .size)
+
+  version-is : version m r ≡ byte m (r + h)
+  unfolding version
+  version-is = rw (d .head)
+
+  -- one that has no room for them
+  pub run-short : z < h + 8 → saysTrun Wrong m r
+  unfolding runSized
+  run-short l =
+      let by : (t : Bool) → when t false false ≡ false = elim [ true ↦ refl | false ↦ refl ] in
+      ap (λ (t : Bool). when (leb (version m r) 1) t false)
+      (ne-eqb (shortSize m r) (8 + runHead (flagsOf m r) + stride (flagsOf m r) * countOf m r) (λ e. omega (arith, e, l, short, head-low (flagsOf m r))))
+      ∙ by (leb (version m r) 1)
+
+  -- one of another version
+  pub run-version : 1 < byte m (r + h) → saysTrun Wrong m r
+  unfolding runSized
+  run-version l = rw (version-is, lt-leb _ _ l)
+
+  -- one of version 0 or 1 with these flags and so many samples
+  module _ (f n s k : ℕ) (low : byte m (r + h) ≤ 1) (flags : f ≡ be3 m (r + h + 1)) (count : n ≡ be4 m (r + h + 4)) (step : s ≡ stride f) (fore : k ≡ runHead f) where
+    flags-are : f ≡ flagsOf m r
+    unfolding flagsOf
+    flags-are = rw (d .head) flags
+
+    count-is : n ≡ countOf m r
+    unfolding countOf field
+    count-is = rw (d .head) count
+
+    sized-is : runSized m r ≡ eqb (z - h + 8) (8 + k + s * n)
+    unfolding runSized
+    sized-is = rw (version-is, le-leb _ _ low, short, ← flags-are, ← count-is, ← step, ← fore)
+
+    pub run-told : z ≡ h + k + s * n → saysTrun (Run f n (r + h)) m r
+    run-told e = (
+      sized-is ∙ eq-eqb (z - h + 8) (8 + k + s * n) (omega (arith, e)),
+      flags-are,
+      count-is,
+      rw (d .head),
+      omega (arith, d .high),
+    )
+
+    pub run-other : (z ≡ h + k + s * n → ⊥) → saysTrun Wrong m r
+    run-other e = sized-is ∙ ne-eqb (z - h + 8) (8 + k + s * n) (λ q. e (omega (arith, q, d .holds)))
