@@ -6,4 +6,5 @@ pub mod Sized
 pub mod Standing
 pub mod Sums
 pub mod Tile
+pub mod Timed
 pub mod Walk

@@ -5,7 +5,7 @@ use mathlib.Core.Bool.{Bool, true, false}
 use Prim.Native.Nat.{ℕ, _+_, _-_, _*_, _<_, _≤_}
 use native.Mathlib.Omega.{arith}
 use lib.Dec.{leb, eqb}
-use borrow.Author.Tests.{lt-leb, le-leb, eq-eqb, ne-eqb}
+use borrow.Author.Tests.{lt-leb, le-leb, eq-eqb, ne-eqb, eqb-true}
 use Rattle.numbers.specs.Numbers.{byte, be3, be4, when}
 use Rattle.rules.specs.Header.{shortSize, version, field}
 use Rattle.rules.specs.Fragment.{flagsOf, runHead, stride, countOf, runSized}
@@ -16,6 +16,11 @@ use Rattle.fragment.specs.declared.runs.Trun.the-variants.{Run, Wrong}
 head-low : (f : ℕ) → 8 ≤ runHead f
 unfolding runHead
 head-low f = omega arith
+
+-- the second of two tests
+whole : (a b : Bool) → when a b false ≡ true → b ≡ true
+whole true b e = e
+whole false b e = cc
 
 module _ (m : List ℕ) (r h z : ℕ) (d : Framed m r h z) where
   short : shortSize m r ≡ z - h + 8
@@ -40,25 +45,32 @@ module _ (m : List ℕ) (r h z : ℕ) (d : Framed m r h z) where
   unfolding runSized
   run-version l = rw (version-is, lt-leb _ _ l)
 
+  -- one that is sized has room for them
+  pub run-room : runSized m r ≡ true → h + 8 ≤ z
+  unfolding runSized
+  run-room e =
+      omega (arith, short, head-low (flagsOf m r), eqb-true (shortSize m r) (8 + runHead (flagsOf m r) + stride (flagsOf m r) * countOf m r) (whole (leb (version m r) 1) _ e))
+
+  -- its flags and its samples
+  pub flags-are : (f : ℕ) → f ≡ be3 m (r + h + 1) → f ≡ flagsOf m r
+  unfolding flagsOf
+  flags-are f e = rw (d .head) e
+
+  pub count-is : (n : ℕ) → n ≡ be4 m (r + h + 4) → n ≡ countOf m r
+  unfolding countOf field
+  count-is n e = rw (d .head) e
+
   -- one of version 0 or 1 with these flags and so many samples
   module _ (f n s k : ℕ) (low : byte m (r + h) ≤ 1) (flags : f ≡ be3 m (r + h + 1)) (count : n ≡ be4 m (r + h + 4)) (step : s ≡ stride f) (fore : k ≡ runHead f) where
-    flags-are : f ≡ flagsOf m r
-    unfolding flagsOf
-    flags-are = rw (d .head) flags
-
-    count-is : n ≡ countOf m r
-    unfolding countOf field
-    count-is = rw (d .head) count
-
     sized-is : runSized m r ≡ eqb (z - h + 8) (8 + k + s * n)
     unfolding runSized
-    sized-is = rw (version-is, le-leb _ _ low, short, ← flags-are, ← count-is, ← step, ← fore)
+    sized-is = rw (version-is, le-leb _ _ low, short, ← flags-are f flags, ← count-is n count, ← step, ← fore)
 
     pub run-told : z ≡ h + k + s * n → saysTrun (Run f n (r + h)) m r
     run-told e = (
       sized-is ∙ eq-eqb (z - h + 8) (8 + k + s * n) (omega (arith, e)),
-      flags-are,
-      count-is,
+      flags-are f flags,
+      count-is n count,
       rw (d .head),
       omega (arith, d .high),
     )

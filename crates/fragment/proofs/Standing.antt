@@ -1,9 +1,10 @@
 -- Laws of where a fragment's boxes stand: the rules over those places are the rules over the `moof`.
 use mathlib.Core.Path.{_≡_, refl, sym, ap, _∙_}
 use mathlib.Core.List.{List}
-use Prim.Native.Nat.{ℕ, _+_, _≤_}
+use Prim.Native.Nat.{ℕ, _+_}
+use native.Mathlib.Nat.{add-zero}
 use native.Mathlib.Omega.{arith}
-use lib.ListN.{drop}
+use lib.ListN.{take, drop}
 use Rattle.rules.specs.Kinds.{traf, tfhd, tfdt, trun}
 use Rattle.rules.specs.Rules.{_then_, must}
 use Rattle.rules.specs.Boxes.{body, boxes, kids, child, seen, firstOf, headOf, placesOf}
@@ -12,8 +13,10 @@ use Rattle.rules.specs.Fragment.{trafIn, tfhdIn, tfdtIn, firstRun, runsIn, shif
 use Rattle.rules.specs.declared.Defaults.{Defaults}
 use Rattle.rules.proofs.Then.{then-assoc}
 use Rattle.boxes.proofs.Moved.{boxes-drop, places-moved}
+use Rattle.fields.specs.Extent.{ExtentAt}
+use Rattle.fields.specs.declared.Extent.{Extent}
 use Rattle.fragment.specs.Bodies.{timeAt}
-use Rattle.fragment.specs.Counts.{rule14moof, rule14traf, Stand}
+use Rattle.fragment.specs.Counts.{rule14moof, rule14traf, runsOf, Inside, Spans, Stand}
 use Rattle.fragment.specs.Layout.{defaultsFrom, defaultsBehind, defaultsAt}
 use Rattle.fragment.specs.Runs.{runsAt}
 use Rattle.fragment.specs.declared.counts.Moof.{Moof}
@@ -44,30 +47,47 @@ module _ (m : List ℕ) (x : Moof) (st : Stand m x) where
   unfolding defaultsAt defaultsBehind defaultsFrom defaultsIn field
   defaults-are d = rw tfhd-is
 
-  -- the first run stands behind the header of `traf`
-  pub run-after : (from : ℕ) → from ≡ x .traf + headOf m (x .traf) → from ≤ x .run
-  unfolding child
-  run-after from f = omega (arith, st .run .is, f)
-
-  -- the runs of a front of `moof` that ends with the `traf` are those of the fragment, from the first on
-  pub runs-from : (s : List ℕ) (from : ℕ) → drop from s ≡ body m (x .traf) → from ≡ x .traf + headOf m (x .traf) → runsAt s (x .run) ≡ runsIn m
-  unfolding runsAt runsIn child kids
-  runs-from s from e f =
-      let b = body m (x .traf) in
-      let first = firstOf (seen trun (boxes b 0)) in
-      ap (λ (y : ℕ). placesOf trun (boxes s y)) (st .run .is ∙ ap (λ (y : ℕ). y + first) (sym f))
-      ∙ ap (placesOf trun) (boxes-drop from s first)
-      ∙ places-moved from trun (boxes (drop from s) first)
-      ∙ ap (λ (t : List ℕ). shifted from (placesOf trun (boxes t first))) e
-      ∙ ap (shifted from) (sym (skips b trun (omega arith)))
-      ∙ rw (f, st .traf .is)
-
   pub rule15-is :
-      (base : ℕ) (rs : List ℕ) → rs ≡ runsIn m →
+      (base : ℕ) →
       rule15 base m
       ≡ (must (plain m (x .mfhd) 16) 15 (base + x .mfhd)
       then must (plain m (x .tfhd) (tfhdSize (flagsOf m (x .tfhd)))) 15 (base + x .tfhd)
       then must (versioned m (x .tfdt) 16 20) 15 (base + x .tfdt)
-      then rule15runs base m rs)
+      then rule15runs base m (runsIn m))
   unfolding rule15
-  rule15-is base rs e = rw (st .mfhd .is, tfhd-is, tfdt-is, e)
+  rule15-is base = rw (st .mfhd .is, tfhd-is, tfdt-is)
+
+-- the runs of the fragment's `traf` are those of the fragment
+pub runs-in : (m : List ℕ) (t : ℕ) → t ≡ trafIn m → runsOf m t ≡ runsIn m
+unfolding runsOf runsIn
+runs-in m t e = rw e
+
+-- the runs of a front of the `moof` that ends with the `traf` at a place
+module _ (m : List ℕ) (t : ℕ) (o : Extent) (inner : ExtentAt m t o) where
+  runs-behind : (p : ℕ) → runsAt (take (o .end) m) (o .from + p) ≡ shifted (t + headOf m t) (placesOf trun (boxes (body m t) p))
+  unfolding runsAt
+  runs-behind p =
+      ap (placesOf trun) (boxes-drop (o .from) (take (o .end) m) p)
+      ∙ places-moved (o .from) trun (boxes (drop (o .from) (take (o .end) m)) p)
+      ∙ rw (inner .bytes, inner .from)
+
+  -- from its header on
+  pub runs-all : runsAt (take (o .end) m) (o .from) ≡ runsOf m t
+  unfolding runsOf kids
+  runs-all = rw add-zero at (runs-behind 0)
+
+  -- and from the first run on
+  pub spans : (r : ℕ) → Inside m t trun r → Spans m t r (o .end)
+  unfolding runsOf child kids
+  spans r i =
+      let b = body m t in
+      let first = firstOf (seen trun (boxes b 0)) in
+      let place : r ≡ o .from + first = omega (arith, i .is, inner .from) in
+      record {
+        runs =
+            ap (runsAt (take (o .end) m)) place
+            ∙ runs-behind first
+            ∙ ap (shifted (t + headOf m t)) (sym (skips b trun (omega arith)));
+        end = inner .end;
+        low = omega (arith, place, inner .after);
+      }

@@ -9,23 +9,41 @@ use lib.ListN.{length, take, length-take}
 use lib.Dec.{eqb}
 use types.Run.{OneOf}
 use denote.Enum.Declared.{tagOf}
-use borrow.Author.Tests.{ne-eqb}
+use borrow.Author.Tests.{eq-eqb, ne-eqb, eqb-true, eqb-false}
 use Rattle.numbers.specs.Numbers.{be4, be8, has, when}
 use Rattle.numbers.proofs.Bounds.{Reads, reads4, reads8, in-take}
 use Rattle.rules.specs.Kinds.{trun}
 use Rattle.rules.specs.Boxes.{look, boxes, placesOf, headOf, sizeOf}
 use Rattle.rules.specs.Rules.{_then_, must}
-use Rattle.rules.specs.Fragment.{flagsOf, rule15runs, rule16runs, samplesOf}
+use Rattle.rules.specs.Fragment.{flagsOf, runSized, rule15runs, rule16runs, samplesOf}
 use Rattle.rules.specs.declared.Look.{Look}
 use Rattle.rules.specs.declared.Look.the-variants.{Header}
+use Rattle.rules.specs.declared.Rule.{Rule}
 use Rattle.rules.specs.declared.Rule.the-variants.{Holds, Breaks}
 use Rattle.rules.proofs.Look.{the-type}
 use Rattle.rules.proofs.Forest.{Found, places-hit, places-miss, places-end}
-use Rattle.rules.proofs.Then.{then-holds, then-breaks, then-last, then-assoc, must-true, must-false}
+use Rattle.rules.proofs.Then.{then-holds, then-last, then-assoc, then-both, must-true, must-holds, broken}
 use Rattle.boxes.proofs.Walks.{over, told-header}
-use Rattle.fragment.specs.Runs.{runsAt, ruleAt, Framed, saysTrun}
+use Rattle.fragment.specs.Runs.{runsAt, ruleAt, Framed, saysTrun, AndRun, Surveys}
 use Rattle.fragment.specs.declared.runs.Trun.{Trun}
 use Rattle.fragment.specs.declared.runs.Trun.the-variants.{Run, Wrong}
+use Rattle.fragment.specs.declared.runs.Runs.{Runs}
+
+-- a rule that breaks nowhere, and one that breaks first at a place
+pub at-none : (n p : ℕ) → p ≡ 0 → ruleAt n p ≡ Holds
+unfolding ruleAt
+at-none n p e = rw (eq-eqb p 0 e)
+
+pub at-some : (n p : ℕ) → (p ≡ 0 → ⊥) → ruleAt n p ≡ Breaks n 0 p
+unfolding ruleAt
+at-some n p e = rw (ne-eqb p 0 e)
+
+-- one that holds breaks nowhere
+pub at-clear : (n p : ℕ) → ruleAt n p ≡ Holds → p ≡ 0
+at-clear n p e =
+    let by : (t : Bool) → eqb p 0 ≡ t → p ≡ 0
+    = elim [ true ↦ λ y. eqb-true p 0 y | false ↦ λ y. absurd (broken (sym (at-some n p (eqb-false p 0 y)) ∙ e)) ] in
+    by (eqb p 0) refl
 
 -- how large the samples' fields of a run get
 pub own-fits : (s n : ℕ) → s ≤ 16 → n ≤ 4294967295 → s * n ≤ 68719476720
@@ -76,46 +94,82 @@ module _ (s : List ℕ) (at : ℕ) {l : Look} (e : l ≡ look s at) where
     unfolding runsAt
     runs-same n = places-miss s at trun h z k (told-header s at e t) (ne-eqb k trun n)
 
--- what a survey knows of all runs where some are left: each run passed was sized, rule 16 of them, and their samples
-pub record Surveyed (base : ℕ) (m : List ℕ) (all left : List ℕ) (clash samples : ℕ) : Type 0 where
-  pub sized : rule15runs base m all ≡ rule15runs base m left
-  pub clear : rule16runs base m all ≡ (ruleAt 16 clash then rule16runs base m left)
-  pub counted : samplesOf m all ≡ samples + samplesOf m left
+-- one run more: one that is sized otherwise, and one that counts
+module _ (base : ℕ) (m : List ℕ) (at : ℕ) (r : Runs) {y : Trun} (told : saysTrun y m at) where
+  pub and-wrong :
+      y ≡ Wrong → (p : ℕ) → ruleAt 15 p ≡ (ruleAt 15 (r .missized) then must false 15 (base + at)) →
+      AndRun base m at r (record { missized = p; clash = r .clash; samples = r .samples })
+  and-wrong w p e =
+      let t : runSized m at ≡ false = subst (λ (z : Trun). saysTrun z m at) w told in
+      record {
+        missized = rw t e;
+        clash = λ x. cc;
+        samples = λ x. cc;
+        low = omega arith;
+      }
 
-pub surveyed-none : (base : ℕ) (m all : List ℕ) → Surveyed base m all all 0 0
+  pub and-sized :
+      (f n z : ℕ) → y ≡ Run f n z → (ok : Bool) → ok ≡ not (has f 0x4 && has f 0x400) →
+      (c : ℕ) → ruleAt 16 c ≡ (ruleAt 16 (r .clash) then must ok 16 (base + at)) → n ≤ 4294967295 →
+      AndRun base m at r (record { missized = r .missized; clash = c; samples = r .samples + n })
+  and-sized f n z w ok o c e low =
+      let t = subst (λ (z : Trun). saysTrun z m at) w told in
+      record {
+        missized = sym (ap (λ (q : Rule). ruleAt 15 (r .missized) then q) (must-true 15 (base + at) (t .0)) ∙ then-last (ruleAt 15 (r .missized)));
+        clash = λ x. rw (← t .1, ← o) e;
+        samples = λ x. ap (λ (k : ℕ). r .samples + k) (t .2);
+        low = omega (arith, low);
+      }
+
+-- what a survey knows of all runs where some are left: rule 15 of those passed, and, where it holds, rule 16 and their samples
+pub record Surveyed (base : ℕ) (m : List ℕ) (all left : List ℕ) (r : Runs) : Type 0 where
+  pub sized : rule15runs base m all ≡ (ruleAt 15 (r .missized) then rule15runs base m left)
+  pub clash : r .missized ≡ 0 → rule16runs base m all ≡ (ruleAt 16 (r .clash) then rule16runs base m left)
+  pub samples : r .missized ≡ 0 → samplesOf m all ≡ r .samples + samplesOf m left
+
+pub surveyed-none : (base : ℕ) (m all : List ℕ) → Surveyed base m all all (record { missized = 0; clash = 0; samples = 0 })
 unfolding ruleAt
-surveyed-none base m all = record { sized = refl; clear = sym (then-holds _ refl); counted = omega arith }
+surveyed-none base m all =
+    record { sized = sym (then-holds _ refl); clash = λ e. sym (then-holds _ refl); samples = λ e. omega arith }
 
-module _ (base : ℕ) (m all left : List ℕ) (clash samples : ℕ) (s : Surveyed base m all left clash samples) where
-  pub surveyed-all :
-      left ≡ [] → (rule15runs base m all ≡ Holds) × (ruleAt 16 clash ≡ rule16runs base m all) × (samples ≡ samplesOf m all)
+module _ (base : ℕ) (m all left : List ℕ) (r : Runs) (s : Surveyed base m all left r) where
+  pub surveyed-all : left ≡ [] → Surveys base m all r
   unfolding rule15runs rule16runs samplesOf
-  surveyed-all o = (
-    s .sized ∙ ap (rule15runs base m) o,
-    sym (s .clear ∙ ap (λ (rs : List ℕ). ruleAt 16 clash then rule16runs base m rs) o ∙ then-last (ruleAt 16 clash)),
-    omega (arith, s .counted, ap (samplesOf m) o),
-  )
+  surveyed-all o =
+      record {
+        sized =
+            sym (s .sized ∙ ap (λ (rs : List ℕ). ruleAt 15 (r .missized) then rule15runs base m rs) o ∙ then-last (ruleAt 15 (r .missized)));
+        clash = λ e.
+            sym (s .clash e ∙ ap (λ (rs : List ℕ). ruleAt 16 (r .clash) then rule16runs base m rs) o ∙ then-last (ruleAt 16 (r .clash)));
+        samples = λ e. omega (arith, s .samples e, ap (samplesOf m) o);
+      }
 
-  module _ (r : ℕ) (rest : List ℕ) (more : left ≡ r ∷ rest) {y : Trun} (told : saysTrun y m r) where
-    pub surveyed-wrong : y ≡ Wrong → rule15runs base m all ≡ Breaks 15 0 (base + r)
-    unfolding rule15runs
-    surveyed-wrong w =
-        s .sized
-        ∙ ap (rule15runs base m) more
-        ∙ then-breaks (rule15runs base m rest) (must-false 15 (base + r) (subst (λ (t : Trun). saysTrun t m r) w told))
+  -- past a box that is no run
+  pub surveyed-same : (rest : List ℕ) → left ≡ rest → Surveyed base m all rest r
+  surveyed-same rest e = subst (λ (rs : List ℕ). Surveyed base m all rs r) e s
 
-    pub surveyed-more :
-        (f n z : ℕ) (ok : Bool) → y ≡ Run f n z → ok ≡ not (has f 0x4 && has f 0x400) →
-        (next : ℕ) → ruleAt 16 next ≡ (ruleAt 16 clash then must ok 16 (base + r)) → Surveyed base m all rest next (samples + n)
+  -- past a run
+  module _ (at : ℕ) (rest : List ℕ) (more : left ≡ at ∷ rest) (q : Runs) (a : AndRun base m at r q) where
+    both : q .missized ≡ 0 → (ruleAt 15 (r .missized) ≡ Holds) × (must (runSized m at) 15 (base + at) ≡ Holds)
+    both e = then-both _ _ (sym (a .missized) ∙ at-none 15 (q .missized) e)
+
+    before : q .missized ≡ 0 → r .missized ≡ 0
+    before e = at-clear 15 (r .missized) (both e .0)
+
+    sized-at : q .missized ≡ 0 → runSized m at ≡ true
+    sized-at e = must-holds (runSized m at) 15 (base + at) (both e .1)
+
+    pub surveyed-more : Surveyed base m all rest q
     unfolding rule15runs rule16runs samplesOf
-    surveyed-more f n z ok w a next c =
-        let t = subst (λ (z : Trun). saysTrun z m r) w told in
-        let test : ok ≡ not (has (flagsOf m r) 0x4 && has (flagsOf m r) 0x400) = rw (← t .1) a in
+    surveyed-more =
         record {
-          sized = s .sized ∙ ap (rule15runs base m) more ∙ then-holds (rule15runs base m rest) (must-true 15 (base + r) (t .0));
-          clear =
-              s .clear
-              ∙ ap (λ (rs : List ℕ). ruleAt 16 clash then rule16runs base m rs) more
-              ∙ rw (← test, c) (sym (then-assoc (ruleAt 16 clash) (must ok 16 (base + r)) (rule16runs base m rest)));
-          counted = omega (arith, s .counted, ap (samplesOf m) more, t .2);
+          sized =
+              s .sized
+              ∙ ap (λ (rs : List ℕ). ruleAt 15 (r .missized) then rule15runs base m rs) more
+              ∙ rw (a .missized) (sym (then-assoc (ruleAt 15 (r .missized)) (must (runSized m at) 15 (base + at)) (rule15runs base m rest)));
+          clash = λ e.
+              s .clash (before e)
+              ∙ ap (λ (rs : List ℕ). ruleAt 16 (r .clash) then rule16runs base m rs) more
+              ∙ rw (a .clash (sized-at e)) (sym (then-assoc (ruleAt 16 (r .clash)) (must (not (has (flagsOf m at) 0x4 && has (flagsOf m at) 0x400)) 16 (base + at)) (rule16runs base m rest)));
+          samples = λ e. omega (arith, s .samples (before e), ap (samplesOf m) more, a .samples (sized-at e));
         }

@@ -3,16 +3,14 @@ use Prim.Native.Nat.{ℕ, _+_}
 use mathlib.Core.Path.{_≡_}
 use mathlib.Core.List.{List}
 use mathlib.Core.Bool.{true, false}
-use lib.ListN.{length}
 use lib.Dec.{eqb}
 use Rattle.numbers.specs.Numbers.{be8, when}
 use Rattle.rules.specs.Boxes.{headOf}
 use Rattle.rules.specs.Header.{version, field, versioned, plain}
-use Rattle.rules.specs.Fragment.{tfhdIn, runsIn, flagsOf, tfhdSize, rule15, startOf, defaultsIn}
+use Rattle.rules.specs.Fragment.{tfhdIn, flagsOf, tfhdSize, rule15, startOf, defaultsIn}
 use Rattle.rules.specs.declared.Rule.the-variants.{Holds, Breaks}
 use Rattle.rules.specs.declared.Defaults.{Defaults}
 use Rattle.fragment.specs.Layout.{defaultsAt}
-use Rattle.fragment.specs.Runs.{Surveys}
 use Rattle.fragment.specs.declared.bodies.Mfhd.{Mfhd}
 use Rattle.fragment.specs.declared.bodies.Mfhd.the-variants.{Plain, Wrong}
 use Rattle.fragment.specs.declared.bodies.Tfhd.{Tfhd}
@@ -43,14 +41,14 @@ abbrev pub saysStart : Start → List ℕ → ℕ → Type 0
 saysStart (At t) m at = (versioned m at 16 20 ≡ true) × (t ≡ timeAt m at)
 saysStart startWrong m at = versioned m at 16 20 ≡ false
 
--- what the bodies say, by the `trex` defaults and the header length of the `mdat`
-pub record Says (base : ℕ) (m : List ℕ) (d : Defaults) (head : ℕ) (k : Body) : Type 0 where
+-- what the bodies say, with the `trex` defaults
+pub record Says (m : List ℕ) (d : Defaults) (k : Body) : Type 0 where
   pub flags : k .flags ≡ flagsOf m (tfhdIn m)
   pub id : k .id ≡ field m (tfhdIn m) 4
   pub start : k .start ≡ startOf m
-  pub runs : Surveys base m (defaultsIn m d) (length m + head) (runsIn m) (k .runs)
+  pub own : k .own ≡ defaultsIn m d
 
 -- 15, with what the bodies say
-abbrev pub saysBodies : Bodies → ℕ → List ℕ → Defaults → ℕ → Type 0
-saysBodies (Known k) base m d head = (rule15 base m ≡ Holds) × Says base m d head k
-saysBodies (Refused p) base m d head = rule15 base m ≡ Breaks 15 0 p
+abbrev pub saysBodies : Bodies → ℕ → List ℕ → Defaults → Type 0
+saysBodies (Known k) base m d = (rule15 base m ≡ Holds) × Says m d k
+saysBodies (Refused p) base m d = rule15 base m ≡ Breaks 15 0 p

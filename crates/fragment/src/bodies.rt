@@ -2,13 +2,12 @@
 ghost use mathlib.Core.Path.{_≡_};
 ghost use Prim.Native.Nat.{_≤_};
 ghost use lib.ListN.{length};
+ghost use Rattle.rules.specs.Fragment.{runsIn};
 ghost use Rattle.fragment.specs.Counts.{Stand};
+ghost use Rattle.fragment.specs.Runs.{Surveys};
 ghost use Rattle.fragment.specs.Bodies.{timeAt, saysMfhd, saysTfhd, saysStart, saysBodies};
 use crate::counts::Moof;
 use crate::layout;
-use crate::runs;
-use crate::runs::Runs;
-use crate::runs::Survey;
 use rules::Defaults;
 
 // What an `mfhd` says: nothing that a rule asks for, or that it is sized otherwise.
@@ -29,12 +28,12 @@ pub enum Start {
     Wrong,
 }
 
-// What the bodies of a fragment's boxes say.
+// What the bodies of a fragment's boxes say: the flags and the track ID of `tfhd`, the start, and the defaults with the fragment's own.
 pub struct Body {
     pub flags: u32,
     pub id: u32,
     pub start: u64,
-    pub runs: Runs,
+    pub own: Defaults,
 }
 
 // The bodies are sized, or the place of rule 15's refusal.
@@ -111,11 +110,11 @@ fn read_tfdt(m: &[u8], at: usize) -> Start
     Start::Wrong
 }
 
-// Rule 15: `mfhd`, `tfhd`, `tfdt`, then the runs, by the `trex` defaults and the header length of the `mdat`.
-pub fn read_bodies(m: &[u8], base: u64, x: Moof, d: Defaults, head: u64) -> Bodies
-    requires { ⌜ (length (now m) ≤ 4294967296) × (base ≤ 4294967296) × (head ≤ 16) ⌝ }
-    requires { ⌜ Stand (now m) x ⌝ }
-    ensures { λ r. ⌜ saysBodies r base (now (m .entry)) d head ⌝ }
+// Rule 15: `mfhd`, `tfhd`, `tfdt`, then the runs, with the `trex` defaults.
+pub fn read_bodies(m: &[u8], base: u64, x: Moof, d: Defaults) -> Bodies
+    requires { ⌜ (length (now m) ≤ 4294967296) × (base ≤ 4294967296) ⌝ }
+    requires { ⌜ Stand (now m) x × Surveys base (now m) (runsIn (now m)) (x .runs) ⌝ }
+    ensures { λ r. ⌜ saysBodies r base (now (m .entry)) d ⌝ }
 {
     let mfhd = read_mfhd(m, x.mfhd);
     let Mfhd::Plain = mfhd else {
@@ -129,17 +128,15 @@ pub fn read_bodies(m: &[u8], base: u64, x: Moof, d: Defaults, head: u64) -> Bodi
     let Start::At(start) = tfdt else {
         return Bodies::Refused(base + x.tfdt as u64);
     };
-    let t = fields::inner(m, x.traf);
-    let end = t.end;
-    let data = m.len() as u64;
-    let all = runs::survey_runs(m, &m[..end], x.run, base, own, data + head);
-    match all {
-        Survey::Missized(p) => Bodies::Refused(p),
-        Survey::All(runs) => Bodies::Known(Body {
-            flags,
-            id,
-            start,
-            runs,
-        }),
+    let runs = x.runs;
+    let missized = runs.missized;
+    if missized != 0 {
+        return Bodies::Refused(missized);
     }
+    Bodies::Known(Body {
+        flags,
+        id,
+        start,
+        own,
+    })
 }

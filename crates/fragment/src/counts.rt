@@ -1,10 +1,12 @@
-// Rule 14: how many boxes of each type stand in `moof` and in `traf`, and where.
+// Rule 14: how many boxes of each type stand in `moof` and in `traf`, and where; with what the runs say by themselves, in the same walk.
 ghost use mathlib.Core.Path.{_≡_};
 ghost use Prim.Native.Nat.{_+_, _<_, _≤_};
-ghost use lib.ListN.{length};
+ghost use lib.ListN.{length, take};
 ghost use Rattle.rules.specs.Header.{oneOf, someOf};
 ghost use Rattle.rules.specs.Boxes.{boxes, seen, firstOf};
-ghost use Rattle.fragment.specs.Counts.{saysCount, saysPlace, saysInMoof, saysInTraf, saysFound, Inside, seenOf, Again, SawThree};
+ghost use Rattle.fragment.specs.Counts.{saysCount, saysPlace, saysInMoof, saysInTraf, saysFound, Inside, seenOf, Again, SawThree, SawTraf};
+use crate::runs;
+use crate::runs::Runs;
 use boxes::Next;
 use boxes::kinds::MFHD;
 use boxes::kinds::TFDT;
@@ -31,17 +33,21 @@ pub enum InTraf {
         tfhd: usize,
         tfdt: usize,
         run: usize,
+        end: usize,
+        runs: Runs,
     },
     Refused(u64),
 }
 
-// Where the boxes of a fragment stand in its `moof`; of the runs the first.
+// Where the boxes of a fragment stand in its `moof`, of the runs the first; where the `traf` ends; and what the runs say by themselves.
 pub struct Moof {
     pub mfhd: usize,
     pub traf: usize,
     pub tfhd: usize,
     pub tfdt: usize,
     pub run: usize,
+    pub end: usize,
+    pub runs: Runs,
 }
 
 // The boxes of a fragment, or the place of rule 14's refusal.
@@ -61,6 +67,12 @@ pub struct Trio {
     pub a: Sight,
     pub b: Sight,
     pub c: Sight,
+}
+
+// What one walk over `traf` tells: `tfhd`, `tfdt` and the runs as they are seen, and what the runs say by themselves.
+pub struct Traf {
+    pub seen: Trio,
+    pub runs: Runs,
 }
 
 // What is seen after one box more at a place.
@@ -114,6 +126,52 @@ fn tally(s: &[u8], from: usize, v: u32, w: u32, x: u32) -> Trio
         }
         if kind == x {
             c = again(c, at);
+        }
+        at += size;
+    }
+}
+
+// The boxes of a front of the `moof` from a place on, which are those of `traf`.
+fn walk_traf(m: &[u8], s: &[u8], from: usize, base: u64) -> Traf
+    requires { ⌜ (length (now m) ≤ 4294967296) × (0 < from) × (base ≤ 4294967296) ⌝ }
+    requires { ⌜ now s ≡ take (length (now s)) (now m) ⌝ }
+    ensures { λ r. ⌜ SawTraf base (now (m .entry)) (now (s .entry)) from r ⌝ }
+{
+    let mut at = from;
+    let mut a = Sight {
+        first: 0,
+        second: 0,
+    };
+    let mut b = Sight {
+        first: 0,
+        second: 0,
+    };
+    let mut c = Sight {
+        first: 0,
+        second: 0,
+    };
+    let mut runs = Runs {
+        missized: 0,
+        clash: 0,
+        samples: 0,
+    };
+    loop {
+        let l = boxes::look(s, at);
+        let Look::Header { head, size, kind } = l else {
+            return Traf {
+                seen: Trio { a, b, c },
+                runs,
+            };
+        };
+        if kind == TFHD {
+            a = again(a, at);
+        }
+        if kind == TFDT {
+            b = again(b, at);
+        }
+        if kind == TRUN {
+            c = again(c, at);
+            runs = runs::and_run(m, at, head, size, base, runs);
         }
         at += size;
     }
@@ -181,8 +239,10 @@ fn in_traf(m: &[u8], base: u64, traf: usize) -> InTraf
 {
     let o = fields::inner(m, traf);
     let end = o.end;
-    let seen = tally(&m[..end], o.from, TFHD, TFDT, TRUN);
+    let walk = walk_traf(m, &m[..end], o.from, base);
     let container = base + traf as u64;
+    let seen = walk.seen;
+    let runs = walk.runs;
     let tfhds = seen.a;
     let tfdts = seen.b;
     let truns = seen.c;
@@ -198,10 +258,16 @@ fn in_traf(m: &[u8], base: u64, traf: usize) -> InTraf
     let Count::At(run) = z else {
         return InTraf::Refused(place_of(z));
     };
-    InTraf::Three { tfhd, tfdt, run }
+    InTraf::Three {
+        tfhd,
+        tfdt,
+        run,
+        end,
+        runs,
+    }
 }
 
-// Rule 14: the boxes of a fragment.
+// Rule 14: the boxes of a fragment, and what its runs say by themselves.
 pub fn find_boxes(m: &[u8], base: u64) -> Found
     requires { ⌜ (length (now m) ≤ 4294967296) × (base ≤ 4294967296) ⌝ }
     ensures { λ r. ⌜ saysFound r base (now (m .entry)) ⌝ }
@@ -213,12 +279,20 @@ pub fn find_boxes(m: &[u8], base: u64) -> Found
             let inner = in_traf(m, base, traf);
             match inner {
                 InTraf::Refused(p) => Found::Refused(p),
-                InTraf::Three { tfhd, tfdt, run } => Found::All(Moof {
+                InTraf::Three {
+                    tfhd,
+                    tfdt,
+                    run,
+                    end,
+                    runs,
+                } => Found::All(Moof {
                     mfhd,
                     traf,
                     tfhd,
                     tfdt,
                     run,
+                    end,
+                    runs,
                 }),
             }
         }

@@ -36,10 +36,10 @@ pub fn check(m: &[u8], base: u64, head: u64, payload: u64, h: Header, k: u64, pr
     requires { ⌜ (length (now m) ≤ 4294967296) × (base ≤ 4294967296) × (head ≤ 16) ⌝ }
     ensures { λ r. ⌜ saysFragment r (shape base (now (m .entry)) (h .id) then timing base (now (m .entry)) (h .defaults) head payload k prev) (now (m .entry)) (h .defaults) ⌝ }
 {
-    let answer = shape::shape_of(m, base, h.id, h.defaults, head);
+    let answer = shape::shape_of(m, base, h.id, h.defaults);
     match answer {
         Shape::Refused { number, place } => Fragment::Refused { number, place },
-        Shape::Good(s) => timing::time(m, base, payload, k, prev, s),
+        Shape::Good(s) => timing::time(m, base, head, payload, k, prev, s),
     }
 }
 

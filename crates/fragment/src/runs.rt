@@ -1,4 +1,4 @@
-// The runs of a fragment, one after the other: rules 15 and 16, the samples in all, the first sample, and the tiling of rule 22.
+// The runs of a fragment: what each says by itself, for rules 15, 16 and 18, and what the samples of all come to, for rules 20 to 22.
 ghost use mathlib.Core.Path.{_≡_};
 ghost use mathlib.Core.Bool.{not, _&&_};
 ghost use Prim.Native.Nat.{ℕ, _<_, _≤_};
@@ -7,10 +7,12 @@ ghost use lib.Dec.{eqb};
 ghost use Rattle.numbers.specs.Numbers.{has, when};
 ghost use Rattle.rules.specs.Rules.{_then_, must};
 ghost use Rattle.fragment.specs.Layout.{firstFlagsBehind, placedBehind};
-ghost use Rattle.fragment.specs.Runs.{runsAt, ruleAt, Framed, saysTrun, saysSurvey};
+ghost use Rattle.rules.specs.Limits.{sampleLimit};
+ghost use Rattle.rules.specs.Fragment.{rule15runs, samplesOf};
+ghost use Rattle.rules.specs.declared.Rule.the-variants.{Holds};
+ghost use Rattle.fragment.specs.Runs.{runsAt, ruleAt, Framed, saysTrun, AndRun, Tiles};
 use crate::layout;
 use crate::samples;
-use crate::shape::SAMPLE_LIMIT;
 use boxes::kinds::TRUN;
 use rules::Defaults;
 use rules::Look;
@@ -25,21 +27,21 @@ pub enum Trun {
     Wrong,
 }
 
-// What all runs say: the first place where rule 16 breaks and their samples in all; where these are few, also their durations and sizes,
-// the first sample's flags, and the first place where rule 22 of their offsets breaks. A place is 0 where there is none.
+// What runs say by themselves: the first that is sized otherwise, the first where rule 16 breaks, and their samples in all. A place is
+// 0 where there is none. Where one is sized otherwise the rest says nothing.
 pub struct Runs {
+    pub missized: u64,
     pub clash: u64,
     pub samples: u64,
+}
+
+// What the samples of all runs come to: their durations and sizes, the first sample's flags, and the first place where rule 22 of the
+// runs' offsets breaks, 0 where there is none.
+pub struct Totals {
     pub ticks: u64,
     pub bytes: u64,
     pub first: u32,
     pub tiled: u64,
-}
-
-// What all runs say, or the place of the first that is sized otherwise.
-pub enum Survey {
-    All(Runs),
-    Missized(u64),
 }
 
 // The `trun` at a place, by its header's length and its size: version 0 or 1, sized by its flags and its samples.
@@ -69,7 +71,7 @@ fn read_trun(m: &[u8], r: usize, head: usize, size: usize) -> Trun
 }
 
 // Whether first-sample flags and flags of each sample do not stand in one run.
-pub fn apart(flags: u32) -> bool
+fn apart(flags: u32) -> bool
     ensures { λ r. ⌜ r ≡ not (has flags 0x4 && has flags 0x400) ⌝ }
 {
     if numbers::has(flags, 0x4) {
@@ -80,7 +82,7 @@ pub fn apart(flags: u32) -> bool
 }
 
 // The flags of the first sample of a run with these flags whose header ends at a place.
-pub fn first_flags_behind(m: &[u8], p: usize, flags: u32, d: Defaults) -> u32
+fn first_flags_behind(m: &[u8], p: usize, flags: u32, d: Defaults) -> u32
     requires { ⌜ p ≤ 34359738368 ⌝ }
     ensures { λ a. ⌜ a ≡ firstFlagsBehind (now (m .entry)) p flags d ⌝ }
 {
@@ -121,7 +123,7 @@ fn first_after(
 
 // Whether the data offset, signed, of a run with these flags whose header ends at a place is the place e; the first run carries one,
 // a later one may carry none.
-pub fn placed_behind(first: bool, m: &[u8], p: usize, flags: u32, e: u64) -> bool
+fn placed_behind(first: bool, m: &[u8], p: usize, flags: u32, e: u64) -> bool
     requires { ⌜ p ≤ 34359738368 ⌝ }
     ensures { λ a. ⌜ a ≡ placedBehind first (now (m .entry)) p flags e ⌝ }
 {
@@ -146,15 +148,38 @@ fn first_place(before: u64, test: bool, place: u64) -> u64
     place
 }
 
-// The runs from a start on in a front of the `moof`, where the first sample's byte is at a place after the `moof` start.
-pub fn survey_runs(m: &[u8], s: &[u8], start: usize, base: u64, d: Defaults, from: u64) -> Survey
+// What runs say with one more, which stands at a place.
+pub fn and_run(m: &[u8], at: usize, head: usize, size: usize, base: u64, r: Runs) -> Runs
+    requires { ⌜ Framed (now m) at head size ⌝ }
+    requires { ⌜ (0 < at) × (at ≤ 4294967296) × (base ≤ 4294967296) × (r .samples ≤ 4611686018427387904) ⌝ }
+    ensures { λ q. ⌜ AndRun base (now (m .entry)) at r q ⌝ }
+{
+    let stands = base + at as u64;
+    let run = read_trun(m, at, head, size);
+    match run {
+        Trun::Wrong => Runs {
+            missized: first_place(r.missized, false, stands),
+            clash: r.clash,
+            samples: r.samples,
+        },
+        Trun::Run { flags, count, .. } => Runs {
+            missized: r.missized,
+            clash: first_place(r.clash, apart(flags), stands),
+            samples: r.samples + count as u64,
+        },
+    }
+}
+
+// What the samples of the runs from a start on in a front of the `moof` come to, where the first sample's byte is at a place after the
+// `moof` start. Every run is sized by its flags, and the samples are few.
+pub fn sum_runs(m: &[u8], s: &[u8], start: usize, base: u64, d: Defaults, from: u64) -> Totals
     requires { ⌜ (length (now m) ≤ 4294967296) × (8 ≤ start) × (base ≤ 4294967296) × (from ≤ 8589934592) ⌝ }
     requires { ⌜ now s ≡ take (length (now s)) (now m) ⌝ }
-    ensures { λ r. ⌜ saysSurvey r base (now (m .entry)) d from (runsAt (now (s .entry)) start) ⌝ }
+    requires { ⌜ (rule15runs base (now m) (runsAt (now s) start) ≡ Holds) × (samplesOf (now m) (runsAt (now s) start) ≤ sampleLimit) ⌝ }
+    ensures { λ r. ⌜ Tiles base (now (m .entry)) d from (runsAt (now (s .entry)) start) r ⌝ }
 {
     let mut at = start;
     let mut lead = true;
-    let mut clash: u64 = 0;
     let mut samples: u64 = 0;
     let mut ticks: u64 = 0;
     let mut bytes: u64 = 0;
@@ -163,44 +188,26 @@ pub fn survey_runs(m: &[u8], s: &[u8], start: usize, base: u64, d: Defaults, fro
     loop {
         let l = boxes::look(s, at);
         let Look::Header { head, size, kind } = l else {
-            return Survey::All(Runs {
-                clash,
-                samples,
+            return Totals {
                 ticks,
                 bytes,
                 first,
                 tiled,
-            });
+            };
         };
         if kind == TRUN {
-            let stands = base + at as u64;
-            let run = read_trun(m, at, head, size);
-            let Trun::Run {
-                flags,
-                count,
-                behind,
-            } = run
-            else {
-                return Survey::Missized(stands);
-            };
-            clash = first_place(clash, apart(flags), stands);
+            let behind = at + head;
+            let flags = numbers::near3(m, behind + 1);
+            let count = numbers::near4(m, behind + 4);
             first = first_after(samples, first, count, m, behind, flags, d);
             samples += count as u64;
-            if samples <= SAMPLE_LIMIT {
-                let own = placed_behind(lead, m, behind, flags, from + bytes);
-                tiled = first_place(tiled, own, stands);
-                let fields = behind + layout::run_head(flags);
-                let sums = samples::sums_of(
-                    m,
-                    fields,
-                    layout::stride(flags),
-                    count as usize,
-                    flags,
-                    d,
-                );
-                ticks += sums.ticks;
-                bytes += sums.bytes;
-            }
+            let own = placed_behind(lead, m, behind, flags, from + bytes);
+            tiled = first_place(tiled, own, base + at as u64);
+            let fields = behind + layout::run_head(flags);
+            let step = layout::stride(flags);
+            let sums = samples::sums_of(m, fields, step, count as usize, flags, d);
+            ticks += sums.ticks;
+            bytes += sums.bytes;
             lead = false;
         }
         at += size;

@@ -6,8 +6,9 @@ ghost use lib.ListN.{length};
 ghost use lib.Dec.{leb};
 ghost use Rattle.numbers.specs.Numbers.{has};
 ghost use Rattle.rules.specs.Limits.{sampleLimit};
-ghost use Rattle.rules.specs.Fragment.{shape};
+ghost use Rattle.rules.specs.Fragment.{runsIn, shape};
 ghost use Rattle.fragment.specs.Counts.{Stand};
+ghost use Rattle.fragment.specs.Runs.{Surveys};
 ghost use Rattle.fragment.specs.Shape.{ruleOf, settled, rules15to18, saysShape};
 use crate::bodies;
 use crate::bodies::Bodies;
@@ -15,14 +16,13 @@ use crate::bodies::Body;
 use crate::counts;
 use crate::counts::Found;
 use crate::counts::Moof;
-use crate::runs::Runs;
 use rules::Defaults;
 
-// A fragment of good shape: where its boxes stand, its start, and what its runs say.
+// A fragment of good shape: where its boxes stand, its start, and its samples' defaults.
 pub struct Shaped {
     pub boxes: Moof,
     pub start: u64,
-    pub runs: Runs,
+    pub own: Defaults,
 }
 
 // The shape is good, or rule 14, 15, 16, 17 or 18 breaks.
@@ -38,10 +38,10 @@ pub enum Told {
 }
 
 // Rule 18: the samples of a fragment.
-pub const SAMPLE_LIMIT: u64 = 65536;
+const SAMPLE_LIMIT: u64 = 65536;
 
 // Rule 16, the flags of `tfhd`: 0x1 and 0x10000 clear, 0x20000 set.
-pub fn flagged(flags: u32) -> bool
+fn flagged(flags: u32) -> bool
     ensures { λ r. ⌜ r ≡ (not (has flags 0x1) && not (has flags 0x10000) && has flags 0x20000) ⌝ }
 {
     if numbers::has(flags, 0x1) {
@@ -63,16 +63,16 @@ fn few(samples: u64) -> bool
     samples <= SAMPLE_LIMIT
 }
 
-// Rules 16 to 18, by what the bodies say.
-fn settle(base: u64, id: u32, tfhd: usize, traf: usize, k: Body) -> Told
-    requires { ⌜ (base ≤ 4294967296) × (tfhd ≤ 17179869184) × (traf ≤ 17179869184) ⌝ }
-    ensures { λ r. ⌜ ruleOf r ≡ settled base id tfhd traf k ⌝ }
+// Rules 16 to 18, by what the runs and the bodies say.
+fn settle(base: u64, id: u32, x: Moof, k: Body) -> Told
+    requires { ⌜ (base ≤ 4294967296) × (x .tfhd ≤ 17179869184) × (x .traf ≤ 17179869184) ⌝ }
+    ensures { λ r. ⌜ ruleOf r ≡ settled base id x k ⌝ }
 {
-    let place = base + tfhd as u64;
+    let place = base + x.tfhd as u64;
     if !flagged(k.flags) {
         return Told::Breaks { number: 16, place };
     }
-    let runs = k.runs;
+    let runs = x.runs;
     let clash = runs.clash;
     if clash != 0 {
         return Told::Breaks {
@@ -86,31 +86,31 @@ fn settle(base: u64, id: u32, tfhd: usize, traf: usize, k: Body) -> Told
     if !few(runs.samples) {
         return Told::Breaks {
             number: 18,
-            place: base + traf as u64,
+            place: base + x.traf as u64,
         };
     }
     Told::Holds
 }
 
 // Rules 15 to 18 of a fragment whose boxes stand at these places.
-fn judge(m: &[u8], base: u64, id: u32, x: Moof, d: Defaults, head: u64) -> Shape
-    requires { ⌜ (length (now m) ≤ 4294967296) × (base ≤ 4294967296) × (head ≤ 16) ⌝ }
-    requires { ⌜ Stand (now m) x ⌝ }
-    ensures { λ r. ⌜ saysShape r (rules15to18 base (now (m .entry)) id) base (now (m .entry)) d head ⌝ }
+fn judge(m: &[u8], base: u64, id: u32, x: Moof, d: Defaults) -> Shape
+    requires { ⌜ (length (now m) ≤ 4294967296) × (base ≤ 4294967296) ⌝ }
+    requires { ⌜ Stand (now m) x × Surveys base (now m) (runsIn (now m)) (x .runs) ⌝ }
+    ensures { λ r. ⌜ saysShape r (rules15to18 base (now (m .entry)) id) base (now (m .entry)) d ⌝ }
 {
-    let read = bodies::read_bodies(m, base, x, d, head);
+    let read = bodies::read_bodies(m, base, x, d);
     match read {
         Bodies::Refused(place) => Shape::Refused { number: 15, place },
         Bodies::Known(k) => {
-            let told = settle(base, id, x.tfhd, x.traf, k);
+            let told = settle(base, id, x, k);
             match told {
                 Told::Breaks { number, place } => Shape::Refused { number, place },
                 Told::Holds => {
-                    let runs = k.runs;
+                    let own = k.own;
                     Shape::Good(Shaped {
                         boxes: x,
                         start: k.start,
-                        runs,
+                        own,
                     })
                 }
             }
@@ -118,14 +118,14 @@ fn judge(m: &[u8], base: u64, id: u32, x: Moof, d: Defaults, head: u64) -> Shape
     }
 }
 
-// Rules 14 to 18, with what the runs say by the `trex` defaults and the header length of the `mdat`.
-pub fn shape_of(m: &[u8], base: u64, id: u32, d: Defaults, head: u64) -> Shape
-    requires { ⌜ (length (now m) ≤ 4294967296) × (base ≤ 4294967296) × (head ≤ 16) ⌝ }
-    ensures { λ r. ⌜ saysShape r (shape base (now (m .entry)) id) base (now (m .entry)) d head ⌝ }
+// Rules 14 to 18, with the `trex` defaults.
+pub fn shape_of(m: &[u8], base: u64, id: u32, d: Defaults) -> Shape
+    requires { ⌜ (length (now m) ≤ 4294967296) × (base ≤ 4294967296) ⌝ }
+    ensures { λ r. ⌜ saysShape r (shape base (now (m .entry)) id) base (now (m .entry)) d ⌝ }
 {
     let found = counts::find_boxes(m, base);
     match found {
         Found::Refused(place) => Shape::Refused { number: 14, place },
-        Found::All(x) => judge(m, base, id, x, d, head),
+        Found::All(x) => judge(m, base, id, x, d),
     }
 }

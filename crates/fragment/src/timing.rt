@@ -5,10 +5,12 @@ ghost use Prim.Native.Nat.{_≤_};
 ghost use lib.ListN.{length};
 ghost use lib.Dec.{eqb};
 ghost use Rattle.numbers.specs.Numbers.{has};
-ghost use Rattle.fragment.specs.Counts.{Stand};
+ghost use Rattle.rules.specs.Fragment.{runsIn, durationsOf};
+ghost use Rattle.fragment.specs.Shape.{Sound};
 ghost use Rattle.fragment.specs.Timing.{saysEnd, saysSpan, spanned, timed};
 use crate::Facts;
 use crate::Fragment;
+use crate::runs;
 use crate::shape::Shaped;
 
 // Rule 20: the last tick, 2^63 - 1.
@@ -21,7 +23,7 @@ pub enum End {
 }
 
 // Rule 19: the first fragment, or one that starts at the previous end.
-pub fn follows(k: u64, start: u64, prev: u64) -> bool
+fn follows(k: u64, start: u64, prev: u64) -> bool
     ensures { λ r. ⌜ r ≡ (eqb k 0 || eqb start prev) ⌝ }
 {
     if k == 0 {
@@ -31,7 +33,7 @@ pub fn follows(k: u64, start: u64, prev: u64) -> bool
 }
 
 // Rule 20: the end, by a start and a duration.
-pub fn end_at(start: u64, ticks: u64) -> End
+fn end_at(start: u64, ticks: u64) -> End
     requires { ⌜ ticks ≤ 281474976645120 ⌝ }
     ensures { λ r. ⌜ saysEnd r start ticks ⌝ }
 {
@@ -45,51 +47,54 @@ pub fn end_at(start: u64, ticks: u64) -> End
 }
 
 // Rule 21: not the non-sync bit.
-pub fn is_sync(flags: u32) -> bool
+fn is_sync(flags: u32) -> bool
     ensures { λ r. ⌜ r ≡ not (has flags 0x10000) ⌝ }
 {
     let other = numbers::has(flags, 0x10000);
     !other
 }
 
-// Rules 20 to 22 of a fragment of good shape, by what its runs say.
-fn span(m: &[u8], base: u64, payload: u64, s: Shaped) -> Fragment
-    requires { ⌜ (length (now m) ≤ 4294967296) × (base ≤ 4294967296) × (s .runs .ticks ≤ 281474976645120) ⌝ }
-    requires { ⌜ Stand (now m) (s .boxes) ⌝ }
-    ensures { λ r. ⌜ saysSpan r (spanned base (length (now (m .entry))) payload s) (s .start) (s .runs .ticks) ⌝ }
+// Rules 20 to 22 of a fragment of good shape: only here are its samples summed.
+fn span(m: &[u8], base: u64, head: u64, payload: u64, s: Shaped) -> Fragment
+    requires { ⌜ (length (now m) ≤ 4294967296) × (base ≤ 4294967296) × (head ≤ 16) ⌝ }
+    requires { ⌜ Sound base (now m) (s .boxes) ⌝ }
+    ensures { λ r. ⌜ saysSpan r (spanned base (now (m .entry)) head payload s) (s .start) (durationsOf (now (m .entry)) (s .own) (runsIn (now (m .entry)))) ⌝ }
 {
     let x = s.boxes;
     let start = s.start;
-    let runs = s.runs;
+    let own = s.own;
+    let traf = x.end;
+    let data = m.len() as u64;
+    let sums = runs::sum_runs(m, &m[..traf], x.run, base, own, data + head);
     let place = base + x.run as u64;
-    let last = end_at(start, runs.ticks);
+    let last = end_at(start, sums.ticks);
     let End::At(end) = last else {
         return Fragment::Refused { number: 20, place };
     };
-    if !is_sync(runs.first) {
+    if !is_sync(sums.first) {
         return Fragment::Refused { number: 21, place };
     }
-    let tiled = runs.tiled;
+    let tiled = sums.tiled;
     if tiled != 0 {
         return Fragment::Refused {
             number: 22,
             place: tiled,
         };
     }
-    if runs.bytes != payload {
+    if sums.bytes != payload {
         return Fragment::Refused {
             number: 22,
-            place: base + m.len() as u64,
+            place: base + data,
         };
     }
     Fragment::Good(Facts { start, end })
 }
 
-// Rules 19 to 22 of a fragment of good shape, by what its runs say.
-pub fn time(m: &[u8], base: u64, payload: u64, k: u64, prev: u64, s: Shaped) -> Fragment
-    requires { ⌜ (length (now m) ≤ 4294967296) × (base ≤ 4294967296) × (s .runs .ticks ≤ 281474976645120) ⌝ }
-    requires { ⌜ Stand (now m) (s .boxes) ⌝ }
-    ensures { λ r. ⌜ saysSpan r (timed base (length (now (m .entry))) payload k prev s) (s .start) (s .runs .ticks) ⌝ }
+// Rules 19 to 22 of a fragment of good shape.
+pub fn time(m: &[u8], base: u64, head: u64, payload: u64, k: u64, prev: u64, s: Shaped) -> Fragment
+    requires { ⌜ (length (now m) ≤ 4294967296) × (base ≤ 4294967296) × (head ≤ 16) ⌝ }
+    requires { ⌜ Sound base (now m) (s .boxes) ⌝ }
+    ensures { λ r. ⌜ saysSpan r (timed base (now (m .entry)) head payload k prev s) (s .start) (durationsOf (now (m .entry)) (s .own) (runsIn (now (m .entry)))) ⌝ }
 {
     let x = s.boxes;
     if !follows(k, s.start, prev) {
@@ -98,5 +103,5 @@ pub fn time(m: &[u8], base: u64, payload: u64, k: u64, prev: u64, s: Shaped) -> 
             place: base + x.tfdt as u64,
         };
     }
-    span(m, base, payload, s)
+    span(m, base, head, payload, s)
 }

@@ -100,6 +100,37 @@ fn measure(judges: [Judge; 2], job: Job, bytes: &[u8]) -> [f64; 2] {
     best
 }
 
+/// Both judges' best times of a few rounds, and the number that they agree on.
+pub struct Rivals {
+    pub nanoseconds: [f64; 2],
+    pub number: u64,
+}
+
+impl Rivals {
+    pub fn ratio(&self) -> f64 {
+        self.nanoseconds[0] / self.nanoseconds[1]
+    }
+
+    pub fn best(self, other: Rivals) -> Rivals {
+        let [own, right] = self.nanoseconds;
+        let [other_own, other_right] = other.nanoseconds;
+        Rivals { nanoseconds: [own.min(other_own), right.min(other_right)], ..self }
+    }
+}
+
+/// A short measurement of one input.
+pub fn rivals(tried: Judge, job: Job, bytes: &[u8]) -> Result<Rivals, String> {
+    let mut table = vec![0; AMPLE];
+    let number = compare(tried, job, bytes, &mut table)?.number;
+    let mut best = [f64::INFINITY; 2];
+    for _ in 0..LEAST_ROUNDS {
+        for (best, judge) in best.iter_mut().zip([tried, Judge::REFERENCE]) {
+            *best = best.min(time(judge, job, bytes, &mut table, 20));
+        }
+    }
+    Ok(Rivals { nanoseconds: best, number })
+}
+
 /// Nanoseconds a call, over one batch.
 fn time(judge: Judge, job: Job, bytes: &[u8], table: &mut [u64], batch: usize) -> f64 {
     let start = Instant::now();

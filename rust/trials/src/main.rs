@@ -8,6 +8,7 @@ mod judge;
 mod options;
 mod pipe;
 mod run;
+mod slowest;
 mod small_stack;
 mod stack;
 mod tracks;
@@ -27,6 +28,8 @@ usage: trials run [--seed S] [--from K] [--cases N]
                                                    the reference beside what the maker expects
        trials stack                                worst inputs in 64 KiB of stack
        trials bench                                the archive's time beside the reference's
+       trials slowest [--seed S] [--from K] [--cases N]
+                                                   drawn inputs from 10 KiB on, the slowest beside the reference
        trials vectors [--seed S] [--cases N] [--max BYTES]
                                                    write cases.bin, expected.txt, names.txt
        trials dump NAME                            write an example to standard output
@@ -56,6 +59,10 @@ fn dispatch(command: &str, rest: &[String]) -> Result<(), String> {
         }
         "stack" => stack::stack(Judge::archive()?),
         "bench" => bench::bench(Judge::archive()?),
+        "slowest" => {
+            let (seed, from, cases) = span(rest)?;
+            slowest::slowest(Judge::archive()?, seed, from, cases)
+        }
         "vectors" => {
             let options = Options::parse(rest, &["seed", "cases", "max"])?;
             let max = options.get("max", 16_384) as usize;

@@ -1,7 +1,7 @@
 //! Large and crowded tracks, for the bench and the stack.
 
 use maker::bundle::MARK;
-use maker::node::{self, Content, Header, Node};
+use maker::node::{self, Content, Header, Node, Step};
 use maker::track::{Defaults, Fill, Fragment, Run, Sample, Track, NON_SYNC};
 use reference::MAX_BOXES;
 
@@ -147,6 +147,19 @@ fn planned(bytes: usize, (fragments, samples): (usize, usize)) -> Track {
 pub fn crowded() -> Vec<Node> {
     let mut boxes = maker::examples::track_t();
     node::fill_up(&mut boxes, MAX_BOXES);
+    boxes
+}
+
+/// A good track of 4,096 boxes with the empty ones in one container, before or behind its own.
+pub fn crowded_in(path: &[Step], front: bool) -> Vec<Node> {
+    let track = Track::example(2);
+    let mut boxes = track.boxes(&mut Fill::Zeros);
+    let missing = MAX_BOXES - node::count(&boxes);
+    let crowd = (0..missing).map(|_| Node::leaf(b"free", vec![]));
+    let inside = node::inside(&mut boxes, path);
+    let place = if front { 0 } else { inside.len() };
+    inside.splice(place..place, crowd);
+    track.settle(&mut boxes);
     boxes
 }
 

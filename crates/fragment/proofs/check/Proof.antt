@@ -3,14 +3,14 @@ use native.Mathlib.Omega.{arith}
 use borrow.Author.Needs.{needs}
 use denote.Ref.{now}
 use Rattle.rules.proofs.Then.{then-holds, then-breaks}
-use Rattle.fragment.proofs.Judged.{timed-says}
+use Rattle.fragment.proofs.Timed.{timed-says}
 use Rattle.fragment.proofs.check.Statement.{statement}
 use Rattle.fragment.proofs.check.Tie as tie
 
 time-requires : tie.Need-time-requires
 time-requires c κs =
     let r = rw (c .before .answer2 .given .1) at (c .before .before .before .shape-of .ensures) in
-    (omega (arith, c .before .before .before .before .before .pre, r .1 .runs .ticksLow), r .1 .stand)
+    (omega (arith, c .before .before .before .before .before .pre), r .1 .sound)
 
 returns : tie.Need-returns
 returns c = then-breaks _ (rw (c .before .answer .given .1) at (c .before .before .before .shape-of .ensures))

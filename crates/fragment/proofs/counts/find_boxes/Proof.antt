@@ -5,7 +5,7 @@ use borrow.Author.Needs.{needs}
 use denote.Ref.{now}
 use Rattle.rules.specs.Fragment.{trafIn}
 use Rattle.rules.proofs.Then.{then-holds, then-breaks}
-use Rattle.fragment.proofs.Standing.{rule14-is}
+use Rattle.fragment.proofs.Standing.{rule14-is, runs-in}
 use Rattle.fragment.proofs.counts.find_boxes.Statement.{statement}
 use Rattle.fragment.proofs.counts.find_boxes.Tie as tie
 
@@ -34,7 +34,8 @@ returns-3 c =
     let o = rw (k .before .outer2 .given .1) at (k .before .before .before .in-moof .ensures) in
     let i = rw (c .before .inner2 .given .1) at (c .before .before .before .in-traf .ensures) in (
       rule14-is (a .base) (now (a .m)) (k .before .outer2 .given .0 .1 .0) (o .2 .is) ∙ then-holds _ (o .0) ∙ i .0,
-      record { mfhd = o .1; traf = o .2; tfhd = i .1; tfdt = i .2; run = i .3 },
+      record { mfhd = o .1; traf = o .2; tfhd = i .1; tfdt = i .2; run = i .3; spans = i .4 },
+      rw (← runs-in (now (a .m)) (k .before .outer2 .given .0 .1 .0) (o .2 .is)) (i .5),
     )
 
 pub find-boxes-spec : {M : Type 1} → statement M

@@ -5,7 +5,7 @@ use Rattle.rules.specs.Rules.{_then_}
 use Rattle.rules.specs.declared.Rule.{Rule}
 use Rattle.rules.proofs.Then.{then-holds, then-breaks, then-last, must-true, must-false}
 use Rattle.fragment.specs.Runs.{ruleAt}
-use Rattle.fragment.proofs.Judged.{at-none, at-some}
+use Rattle.fragment.proofs.Walk.{at-none, at-some}
 use Rattle.fragment.proofs.runs.first_place.Statement.{statement}
 use Rattle.fragment.proofs.runs.first_place.Tie as tie
 

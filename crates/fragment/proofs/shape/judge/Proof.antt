@@ -5,14 +5,14 @@ use borrow.Author.Needs.{needs}
 use denote.Ref.{now}
 use Rattle.rules.proofs.Then.{then-holds, then-breaks}
 use Rattle.fragment.specs.Shape.{ruleOf, rules15to18}
-use Rattle.fragment.proofs.Judged.{settled-is, settled-few}
+use Rattle.fragment.proofs.Judged.{settled-is, settled-sound}
 use Rattle.fragment.proofs.shape.judge.Statement.{statement}
 use Rattle.fragment.proofs.shape.judge.Tie as tie
 
 settle-requires : tie.Need-settle-requires
 settle-requires c κs =
     let s = c .before .before .before .before .before in
-    omega (arith, s .pre .0, s .pre .1 .traf .low, s .pre .1 .tfhd .low)
+    omega (arith, s .pre .0, s .pre .1 .0 .traf .low, s .pre .1 .0 .tfhd .low)
 
 returns : tie.Need-returns
 unfolding rules15to18
@@ -25,7 +25,9 @@ rest c =
     let s = c .before .before .before .before .before .before in
     let a = s .args in
     let r = rw (c .before .before .read2 .given .1) at (c .before .before .before .before .read-bodies .ensures) in
-    then-holds _ (r .0) ∙ sym (settled-is (a .base) (now (a .m)) (a .id) (a .x) (s .pre .1) (a .d) (a .head) (c .before .before .read2 .given .0 .0) (r .1)) ∙ sym (c .settle .ensures)
+    then-holds _ (r .0)
+    ∙ sym (settled-is (a .base) (now (a .m)) (a .id) (a .x) (s .pre .1 .0) (s .pre .1 .1) (a .d) (c .before .before .read2 .given .0 .0) (r .0) (r .1))
+    ∙ sym (c .settle .ensures)
 
 returns-2 : tie.Need-returns-2
 returns-2 c = rest (c .before .before .before) ∙ ap ruleOf (c .before .told .given .1)
@@ -40,9 +42,9 @@ returns-3 c =
     let e = ap ruleOf (c .before .enum-told .given .1) in (
       rest t ∙ e,
       record {
-        stand = s .pre .1;
+        sound = settled-sound (a .base) (now (a .m)) (a .id) (a .x) (s .pre .1 .0) (s .pre .1 .1) (a .d) (k .given .0 .0) (r .0) (r .1) (sym (t .settle .ensures) ∙ e);
         start = r .1 .start;
-        runs = r .1 .runs .tiles (omega (arith, r .1 .runs .samples, settled-few (a .base) (a .id) (a .x .tfhd) (a .x .traf) (k .given .0 .0) (sym (t .settle .ensures) ∙ e)));
+        own = r .1 .own;
       },
     )
 

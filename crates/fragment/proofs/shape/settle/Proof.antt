@@ -4,7 +4,8 @@ use borrow.Author.Needs.{needs}
 use borrow.Author.Tests.{not-true, not-false, eq-eqb, ne-eqb}
 use Rattle.rules.proofs.Then.{then-holds, then-breaks, must-true, must-false}
 use Rattle.fragment.specs.Shape.{settled}
-use Rattle.fragment.proofs.Judged.{at-some, settled-on}
+use Rattle.fragment.proofs.Judged.{settled-on}
+use Rattle.fragment.proofs.Walk.{at-some}
 use Rattle.fragment.proofs.shape.settle.Statement.{statement}
 use Rattle.fragment.proofs.shape.settle.Tie as tie
 
@@ -23,7 +24,7 @@ returns-3 c =
     let h = c .before .before in
     let f = h .before .before in
     sym
-    (settled-on _ _ _ _ _ (sym (f .before .flagged .ensures) ∙ not-false _ (f .if1 .left)) (h .if2 .left)
+    (settled-on _ _ _ _ (sym (f .before .flagged .ensures) ∙ not-false _ (f .if1 .left)) (h .if2 .left)
     ∙ then-breaks _ (must-false 17 _ (ne-eqb _ _ (c .if3 .taken))))
 
 returns-4 : tie.Need-returns-4
@@ -32,7 +33,7 @@ returns-4 c =
     let h = i .before .before in
     let f = h .before .before in
     sym
-    (settled-on _ _ _ _ _ (sym (f .before .flagged .ensures) ∙ not-false _ (f .if1 .left)) (h .if2 .left)
+    (settled-on _ _ _ _ (sym (f .before .flagged .ensures) ∙ not-false _ (f .if1 .left)) (h .if2 .left)
     ∙ then-holds _ (must-true 17 _ (eq-eqb _ _ (i .if3 .left)))
     ∙ must-false 18 _ (sym (c .before .few .ensures) ∙ not-true _ (c .if4 .taken)))
 
@@ -42,7 +43,7 @@ returns-5 c =
     let h = i .before .before in
     let f = h .before .before in
     sym
-    (settled-on _ _ _ _ _ (sym (f .before .flagged .ensures) ∙ not-false _ (f .if1 .left)) (h .if2 .left)
+    (settled-on _ _ _ _ (sym (f .before .flagged .ensures) ∙ not-false _ (f .if1 .left)) (h .if2 .left)
     ∙ then-holds _ (must-true 17 _ (eq-eqb _ _ (i .if3 .left)))
     ∙ must-true 18 _ (sym (c .before .few .ensures) ∙ not-false _ (c .if4 .left)))
 

@@ -9,7 +9,7 @@ use Rattle.fragment.proofs.shape.shape_of.Tie as tie
 judge-requires : tie.Need-judge-requires
 judge-requires c κs =
     let r = rw (c .before .found2 .given .1) at (c .before .before .before .find-boxes .ensures) in
-    (c .before .before .before .before .before .pre, r .1)
+    (c .before .before .before .before .before .pre, (r .1, r .2))
 
 returns : tie.Need-returns
 unfolding shape

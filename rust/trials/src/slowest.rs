@@ -1,0 +1,78 @@
+//! `trials slowest`: inputs of at least 10 KiB, drawn ones and tracks with a
+//! crowd of boxes in one container; lists those that take longest beside the reference.
+
+use crate::bench::rivals;
+use crate::drawn::Drawn;
+use crate::judge::Judge;
+use crate::tracks::crowded_in;
+use maker::cases::Job;
+use maker::node::{self, Step};
+
+const LEAST_BYTES: usize = 10 << 10;
+/// Of a call that ends sooner the call itself is most.
+const LEAST_NANOSECONDS: f64 = 100.0;
+const LISTED: usize = 20;
+/// An input over this is timed again, so that a pause of the machine is not taken for it.
+const SUSPECT: f64 = 1.3;
+
+struct Timed {
+    ratio: f64,
+    right: f64,
+    input: String,
+}
+
+pub fn slowest(tried: Judge, seed: u64, from: u64, cases: u64) -> Result<(), String> {
+    let mut all = Vec::new();
+    for job in Job::ALL {
+        for number in from..from + cases {
+            let drawn = Drawn::make(job, seed, number);
+            if drawn.case.bytes.len() >= LEAST_BYTES {
+                all.push(timed(tried, drawn.name(), job, &drawn.case.bytes)?);
+            }
+        }
+    }
+    for path in node::containers(&maker::examples::track_t()) {
+        for front in [true, false] {
+            let bytes = node::bytes(&crowded_in(&path, front));
+            let name = format!("track, a crowd {} {}", where_in(front), spelled(&path));
+            all.push(timed(tried, name, Job::Track, &bytes)?);
+        }
+    }
+    all.retain(|timed| timed.right >= LEAST_NANOSECONDS);
+    all.sort_by(|one, other| other.ratio.total_cmp(&one.ratio));
+    for timed in all.iter().take(LISTED) {
+        println!("{:.2} {}", timed.ratio, timed.input);
+    }
+    let over = all.iter().filter(|timed| timed.ratio > 1.5).count();
+    println!("{over} of {} inputs over 1.5", all.len());
+    Ok(())
+}
+
+fn timed(tried: Judge, name: String, job: Job, bytes: &[u8]) -> Result<Timed, String> {
+    let measure = || rivals(tried, job, bytes);
+    let mut times = measure()?;
+    for _ in 0..4 {
+        if times.ratio() <= SUSPECT {
+            break;
+        }
+        times = times.best(measure()?);
+    }
+    let ratio = times.ratio();
+    let [own, right] = times.nanoseconds;
+    let (size, number) = (bytes.len(), times.number);
+    let input = format!("{name}: {size} bytes, number {number}, {own:.0} and {right:.0} ns");
+    Ok(Timed { ratio, right, input })
+}
+
+fn where_in(front: bool) -> &'static str {
+    if front {
+        "in front in"
+    } else {
+        "at the end of"
+    }
+}
+
+fn spelled(path: &[Step]) -> String {
+    let kinds: Vec<_> = path.iter().map(|(kind, _)| String::from_utf8_lossy(kind)).collect();
+    kinds.join("/")
+}
