@@ -2,3 +2,4 @@ pub mod Containers
 pub mod Headers
 pub mod Walks
 pub mod Moved
+pub mod Sights

@@ -9,7 +9,7 @@ use lib.Dec.{eqb}
 use Rattle.numbers.specs.Numbers.{be4, be8, when}
 use Rattle.numbers.proofs.Bounds.{reads4, reads8, in-drop}
 use Rattle.rules.specs.Kinds.{named}
-use Rattle.rules.specs.Boxes.{Box, sized, lookAt, look, boxes, again, seenFrom, seen, placesOf}
+use Rattle.rules.specs.Boxes.{Box, lookAt, look, boxes, again, seenFrom, seen, placesOf}
 use Rattle.rules.specs.Fragment.{shifted}
 use Rattle.rules.specs.declared.Look.{Look}
 use Rattle.rules.specs.declared.Look.the-variants.{Nothing, Short, Small, Beyond, Header}

@@ -17,14 +17,14 @@ use kinds::VMHD;
 use rules::Inside;
 use rules::Look;
 use rules::Path;
-use rules::Seen;
 ghost use mathlib.Core.Path.{_≡_};
-ghost use Prim.Native.Nat.{_-_, _≤_};
+ghost use Prim.Native.Nat.{_-_, _<_, _≤_};
 ghost use lib.ListN.{length};
 ghost use Rattle.rules.specs.Kinds.{isMedia, named};
-ghost use Rattle.rules.specs.Boxes.{look, sized, inside, again};
+ghost use Rattle.rules.specs.Boxes.{look, sized, inside};
 ghost use Rattle.boxes.specs.Bounds.{lookBounds};
-ghost use Rattle.boxes.specs.Siblings.{nextOf, Tallied};
+ghost use Rattle.boxes.specs.Siblings.{nextOf};
+ghost use Rattle.boxes.specs.Sights.{Again, SawFive};
 
 // A header of some bytes that says a size, at a place of a slice of a length. The size is compared with the bytes that are left:
 // its sum with the place may not fit.
@@ -150,36 +150,70 @@ pub fn named(want: u32, kind: u32) -> bool
     kind == want
 }
 
-// What is seen after one box more at a place.
-pub fn again(seen: Seen, at: usize) -> Seen
-    ensures { λ r. ⌜ r ≡ again at seen ⌝ }
-{
-    match seen {
-        Seen::Never => Seen::Once(at),
-        Seen::Once(a) => Seen::Twice(a, at),
-        Seen::Twice(a, b) => Seen::Twice(a, b),
-    }
+// Where the first and the second box of a type stand; 0 where there is none.
+pub struct Sight {
+    pub first: usize,
+    pub second: usize,
 }
+
+// What is seen after one box more at a place.
+pub fn again(v: Sight, at: usize) -> Sight
+    requires { ⌜ 0 < at ⌝ }
+    ensures { λ r. ⌜ Again v at r ⌝ }
+{
+    if v.first == 0 {
+        return Sight {
+            first: at,
+            second: 0,
+        };
+    }
+    if v.second == 0 {
+        return Sight {
+            first: v.first,
+            second: at,
+        };
+    }
+    v
+}
+
+// A want that nobody looks at.
+pub const NONE: u32 = 1;
 
 // What is seen of five wanted types.
 pub struct Five {
-    pub a: Seen,
-    pub b: Seen,
-    pub c: Seen,
-    pub d: Seen,
-    pub e: Seen,
+    pub a: Sight,
+    pub b: Sight,
+    pub c: Sight,
+    pub d: Sight,
+    pub e: Sight,
 }
 
-// What is seen of five wanted types among the sibling boxes of a slice.
-pub fn tally(s: &[u8], v: u32, w: u32, x: u32, y: u32, z: u32) -> Five
-    ensures { λ r. ⌜ Tallied (now (s .entry)) v w x y z r ⌝ }
+// What is seen of five wanted types among the sibling boxes of a slice from a place on; only the first may be the media headers.
+pub fn tally(s: &[u8], from: usize, v: u32, w: u32, x: u32, y: u32, z: u32) -> Five
+    requires { ⌜ (0 < from) × (0 < w) × (0 < x) × (0 < y) × (0 < z) ⌝ }
+    ensures { λ r. ⌜ SawFive (now (s .entry)) from v w x y z r ⌝ }
 {
-    let mut at = 0;
-    let mut a = Seen::Never;
-    let mut b = Seen::Never;
-    let mut c = Seen::Never;
-    let mut d = Seen::Never;
-    let mut e = Seen::Never;
+    let mut at = from;
+    let mut a = Sight {
+        first: 0,
+        second: 0,
+    };
+    let mut b = Sight {
+        first: 0,
+        second: 0,
+    };
+    let mut c = Sight {
+        first: 0,
+        second: 0,
+    };
+    let mut d = Sight {
+        first: 0,
+        second: 0,
+    };
+    let mut e = Sight {
+        first: 0,
+        second: 0,
+    };
     loop {
         let l = look(s, at);
         let Look::Header { size, kind, .. } = l else {
@@ -188,16 +222,16 @@ pub fn tally(s: &[u8], v: u32, w: u32, x: u32, y: u32, z: u32) -> Five
         if named(v, kind) {
             a = again(a, at);
         }
-        if named(w, kind) {
+        if kind == w {
             b = again(b, at);
         }
-        if named(x, kind) {
+        if kind == x {
             c = again(c, at);
         }
-        if named(y, kind) {
+        if kind == y {
             d = again(d, at);
         }
-        if named(z, kind) {
+        if kind == z {
             e = again(e, at);
         }
         at += size;

@@ -7,7 +7,7 @@ use native.Mathlib.Omega.{arith}
 use lib.ListN.{length, take, drop, drop-of-length-le, length-take, length-drop}
 use lib.Seq.{take-nil, take-all, take-length, take-add, drop-at}
 use borrow.Author.Tests.{eq-eqb, ne-eqb}
-use Rattle.numbers.specs.Numbers.{byte, be2, be3, be4, be8}
+use Rattle.numbers.specs.Numbers.{byte, be3, be4, be8}
 use Rattle.numbers.proofs.Bounds.{past, Reads}
 use Rattle.rules.specs.Boxes.{part, headOf, sizeOf, body}
 use Rattle.rules.specs.Header.{shortSize, version}

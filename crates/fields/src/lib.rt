@@ -1,5 +1,5 @@
 // The fields of a framed box: header length, size, version, flags, numbers behind the header, and the bytes it holds.
-// Every reader is total: what stands past the end of the slice reads as 0.
+// Every public reader is total: what stands past the end of the slice reads as 0.
 ghost use mathlib.Core.Path.{_≡_};
 ghost use Prim.Native.Nat.{_+_, _-_, _<_, _≤_};
 ghost use lib.ListN.{length};

@@ -1,32 +1,29 @@
 -- Laws of counts: what is seen of a type in a container's body says where its box stands, and what rule 14 says of it.
 use mathlib.Core.Path.{_≡_, refl, sym, ap, subst, _∙_}
-use mathlib.Core.List.{List, []}
+use mathlib.Core.List.{List}
 use mathlib.Core.Bool.{Bool, true, false}
-use Prim.Native.Nat.{ℕ, _+_, _-_, _<_, _≤_}
-use native.Mathlib.Nat.{add-zero}
+use Prim.Native.Nat.{ℕ, _+_, _-_, _≤_}
 use native.Mathlib.Omega.{arith}
-use lib.ListN.{length, take, drop, length-take, length-drop}
+use lib.ListN.{length, take, length-take, length-drop}
 use lib.Dec.{eqb}
-use borrow.Author.Tests.{eqb-true, eqb-false, eq-eqb, ne-eqb}
+use borrow.Author.Tests.{ne-eqb}
 use Rattle.numbers.specs.Numbers.{when}
-use Rattle.rules.specs.Boxes.{look, body, boxes, kids, child, again, seen, seenFrom, firstOf, headOf}
+use Rattle.rules.specs.Boxes.{body, boxes, kids, child, seen, firstOf, headOf}
 use Rattle.rules.specs.Header.{one, oneOf, someOf}
-use Rattle.rules.specs.declared.Look.{Look}
-use Rattle.rules.specs.declared.Look.the-variants.{Header}
 use Rattle.rules.specs.declared.Rule.{Rule}
 use Rattle.rules.specs.declared.Rule.the-variants.{Holds, Breaks}
 use Rattle.rules.specs.declared.Seen.{Seen}
 use Rattle.rules.specs.declared.Seen.the-variants.{Never, Once, Twice}
-use Rattle.rules.proofs.Forest.{seen-box, seen-end}
-use Rattle.boxes.proofs.Moved.{movedSeen, boxes-drop, seen-moved}
-use Rattle.boxes.proofs.Walks.{told-header, found}
+use Rattle.boxes.specs.Sights.{seenOf, Sighted}
+use Rattle.boxes.specs.declared.Sight.{Sight}
+use Rattle.boxes.proofs.Moved.{movedSeen}
+use Rattle.boxes.proofs.Sights.{sees-first, sees-kids, sees-low, one-moved}
 use Rattle.fields.specs.Extent.{ExtentAt}
 use Rattle.fields.specs.declared.Extent.{Extent}
-use Rattle.fragment.specs.Counts.{seenOf, Again, Sighted, saysCount, saysPlace, Inside}
+use Rattle.fragment.specs.Counts.{saysCount, saysPlace, Inside}
 use Rattle.fragment.specs.declared.counts.Count.{Count}
 use Rattle.fragment.specs.declared.counts.Count.the-variants.{At, Refused}
-use Rattle.fragment.specs.declared.counts.Sight.{Sight}
-use Rattle.fragment.proofs.First.{Since, once, twice, since-first, named-is}
+use Rattle.fragment.proofs.First.{Since, once, twice}
 
 -- a body is no longer than what is left behind the header
 pub body-low : (m : List ℕ) (at : ℕ) → length (body m at) ≤ length m - (at + headOf m at)
@@ -44,62 +41,13 @@ first-inside m b at w head first is h k e low =
       low = omega (arith, low, ap length is, body-low m at);
     }
 
--- what is seen, by its places
+-- what is seen has a first box, if one is
 module _ (v : Sight) where
-  pub sees-none : v .first ≡ 0 → seenOf v ≡ Never
-  unfolding seenOf
-  sees-none e = rw (eq-eqb (v .first) 0 e)
-
-  pub sees-one : (v .first ≡ 0 → ⊥) → v .second ≡ 0 → seenOf v ≡ Once (v .first)
-  unfolding seenOf
-  sees-one n e = rw (ne-eqb (v .first) 0 n, eq-eqb (v .second) 0 e)
-
-  pub sees-two : (v .first ≡ 0 → ⊥) → (v .second ≡ 0 → ⊥) → seenOf v ≡ Twice (v .first) (v .second)
-  unfolding seenOf
-  sees-two n k = rw (ne-eqb (v .first) 0 n, ne-eqb (v .second) 0 k)
-
   pub sees-some : (v .first ≡ 0 → ⊥) → Since (v .first) (seenOf v)
   unfolding seenOf
   sees-some n =
       let by : (t : Bool) → Since (v .first) (when t (Once (v .first)) (Twice (v .first) (v .second))) = elim [ true ↦ once | false ↦ twice ] in
       rw (ne-eqb (v .first) 0 n) (by (eqb (v .second) 0))
-
-  pub sees-first : firstOf (seenOf v) ≡ v .first
-  sees-first =
-      let by : (t : Bool) → eqb (v .first) 0 ≡ t → firstOf (seenOf v) ≡ v .first
-      = elim [
-        | true ↦ λ e. let z = eqb-true (v .first) 0 e in ap firstOf (sees-none z) ∙ sym z
-        | false ↦ λ n. since-first (sees-some (eqb-false (v .first) 0 n))
-      ] in
-      by (eqb (v .first) 0) refl
-
--- what is seen of a wanted type from a place on is v and what is seen from `at` on
-pub record Going (s : List ℕ) (from at w : ℕ) (v : Sight) : Type 0 where
-  pub all : seen w (boxes s from) ≡ seenFrom (seenOf v) w (boxes s at)
-  pub low : (v .first ≤ length s) × (v .second ≤ length s)
-
-pub going-none : (s : List ℕ) (from w : ℕ) → Going s from from w (record { first = 0; second = 0 })
-unfolding seenOf
-going-none s from w = record { all = refl; low = omega arith }
-
-pub going-all : {s : List ℕ} {from at w : ℕ} {v : Sight} → Going s from at w v → boxes s at ≡ [] → Sighted s from w v
-going-all {s} {from} {at} {w} {v} g e = record { all = sym (g .all ∙ seen-end s at (seenOf v) w e); low = g .low }
-
--- past a box that is wanted, and past one that is not
-module _ (s : List ℕ) (at : ℕ) {h z k : ℕ} {l : Look} (e : l ≡ look s at) (t : l ≡ Header h z k) {from w : ℕ} {v : Sight} (i : 0 < w) (g : Going s from at w v) where
-  more : (b : Bool) → eqb k w ≡ b → seen w (boxes s from) ≡ seenFrom (when b (again at (seenOf v)) (seenOf v)) w (boxes s (at + z))
-  more b q = g .all ∙ rw (← q, ← named-is w k i) (seen-box s at (seenOf v) w h z k (told-header s at e t))
-
-  pub going-hit : {r x : Sight} → k ≡ w → Again v at r → x ≡ r → Going s from (at + z) w x
-  going-hit {r} {x} q a f =
-      rw f
-      (record {
-        all = rw (a .seen) (more _ (eq-eqb k w q));
-        low = a .low (length s) (omega (arith, found s at e t)) (g .low);
-      })
-
-  pub going-miss : {x : Sight} → (k ≡ w → ⊥) → x ≡ v → Going s from (at + z) w x
-  going-miss n f = rw f (record { all = more _ (ne-eqb k w n); low = g .low })
 
 -- what a count says in either case
 module _ (c : Count) (rule : Rule) (v : Seen) (says : saysCount c rule v) where
@@ -110,13 +58,7 @@ module _ (c : Count) (rule : Rule) (v : Seen) (says : saysCount c rule v) where
   refused r p e place =
       subst (λ (x : Count). saysCount x rule v) e says ∙ ap (Breaks 14 0) (sym (subst (λ (x : Count). saysPlace x r) e place))
 
--- the counts of what is seen so many places on, and the first of them
-one-moved : (container base a : ℕ) (v : Seen) → oneOf 14 container base (movedSeen a v) ≡ oneOf 14 container (base + a) v
-unfolding oneOf
-one-moved container base a Never = refl
-one-moved container base a (Once x) = refl
-one-moved container base a (Twice x y) = ap (Breaks 14 0) (omega arith)
-
+-- one box or more so many places on, and the first of them
 some-moved : (container a : ℕ) (v : Seen) → someOf 14 container (movedSeen a v) ≡ someOf 14 container v
 unfolding someOf
 some-moved container a Never = refl
@@ -145,15 +87,10 @@ pub record Sees (base : ℕ) (m : List ℕ) (at w container : ℕ) (v : Sight) :
 
 module _ (base : ℕ) (m : List ℕ) (at w container : ℕ) (o : Extent) (v : Sight) (inner : ExtentAt m at o) (g : Sighted (take (o .end) m) (o .from) w v) where
   sees-all : seenOf v ≡ movedSeen (o .from) (seen w (kids m at))
-  unfolding kids
-  sees-all =
-      g .all
-      ∙ ap (seen w) (rw add-zero at (boxes-drop (o .from) (take (o .end) m) 0))
-      ∙ seen-moved (o .from) w (boxes (drop (o .from) (take (o .end) m)) 0)
-      ∙ ap (λ (s : List ℕ). movedSeen (o .from) (seen w (boxes s 0))) (inner .bytes)
+  sees-all = sees-kids m at (o .from) (o .end) (inner .bytes) g
 
-  low : (x : ℕ) → x ≤ length (take (o .end) m) → x ≤ length m
-  low x h = omega (arith, simp length-take at h)
+  low : (v .first ≤ length m) × (v .second ≤ length m)
+  low = sees-low m at (o .from) (o .end) (inner .bytes) g
 
   pub sees : container ≡ base + at → Sees base m at w container v
   unfolding one child
@@ -166,9 +103,9 @@ module _ (base : ℕ) (m : List ℕ) (at w container : ℕ) (o : Extent) (v : Si
             record {
               is = f ∙ ap firstOf sees-all ∙ first-moved container (o .from) (seen w (kids m at)) (sym (some-moved container (o .from) (seen w (kids m at))) ∙ ap (someOf 14 container) (sym sees-all) ∙ h)
                   ∙ ap (λ (y : ℕ). y + firstOf (seen w (kids m at))) (inner .from);
-              low = omega (arith, f, sees-first v, low (v .first) (g .low .0));
+              low = omega (arith, f, sees-first v, low .0);
             };
-        second = low (v .second) (g .low .1);
+        second = low .1;
       }
 
 -- what a count of one box, and of one or more, says of the container at a place

@@ -6,7 +6,7 @@ use Prim.Native.Nat.{ℕ, zero, suc, _+_, _-_, _<_, _≤_}
 use native.Mathlib.Omega.{arith}
 use lib.ListN.{length}
 use lib.Dec.{eqb}
-use borrow.Author.Tests.{eqb-true, ne-eqb}
+use borrow.Author.Tests.{eqb-true}
 use Rattle.numbers.specs.Numbers.{when}
 use Rattle.rules.specs.Kinds.{named}
 use Rattle.rules.specs.Boxes.{Box, look, boxes, placesOf, seen, seenFrom, again, firstOf}
@@ -19,6 +19,7 @@ use Rattle.rules.specs.declared.Seen.the-variants.{Never, Once, Twice}
 use Rattle.rules.proofs.Forest.{look-found, boxes-by, places-hit, places-miss, places-end}
 use Rattle.boxes.specs.Siblings.{Comes}
 use Rattle.boxes.proofs.Walks.{passed-none, comes}
+use Rattle.boxes.proofs.Sights.{named-is}
 
 -- something was seen, and a was first
 pub data Since (a : ℕ) : Seen → Type 0 where
@@ -50,11 +51,6 @@ first-stays w (x ∷ xs) i = first-stays w xs (since-again (named w (x .kind)) (
 abbrev headOr0 : List ℕ → ℕ
 headOr0 [] = 0
 headOr0 (p ∷ ps) = p
-
--- a type that is not 0 wants itself
-pub named-is : (w k : ℕ) → 0 < w → named w k ≡ eqb k w
-unfolding named
-named-is w k h = rw (ne-eqb w 0 (λ e. omega (arith, e)))
 
 -- what is seen first is the first of the places
 first-place : (w : ℕ) → 0 < w → (xs : List Box) → firstOf (seen w xs) ≡ headOr0 (placesOf w xs)

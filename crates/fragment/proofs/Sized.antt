@@ -4,6 +4,7 @@ use mathlib.Core.List.{List}
 use mathlib.Core.Bool.{Bool, true, false}
 use Prim.Native.Nat.{ℕ, _+_, _-_, _*_, _<_, _≤_}
 use native.Mathlib.Omega.{arith}
+use lib.ListN.{length}
 use lib.Dec.{leb, eqb}
 use borrow.Author.Tests.{lt-leb, le-leb, eq-eqb, ne-eqb, eqb-true}
 use Rattle.numbers.specs.Numbers.{byte, be3, be4, when}
@@ -45,11 +46,19 @@ module _ (m : List ℕ) (r h z : ℕ) (d : Framed m r h z) where
   unfolding runSized
   run-version l = rw (version-is, lt-leb _ _ l)
 
-  -- one that is sized has room for them
-  pub run-room : runSized m r ≡ true → h + 8 ≤ z
+  -- one that is sized is filled by them and the samples' fields, so it has room for them
+  filled : runSized m r ≡ true → z ≡ h + runHead (flagsOf m r) + stride (flagsOf m r) * countOf m r
   unfolding runSized
-  run-room e =
-      omega (arith, short, head-low (flagsOf m r), eqb-true (shortSize m r) (8 + runHead (flagsOf m r) + stride (flagsOf m r) * countOf m r) (whole (leb (version m r) 1) _ e))
+  filled e =
+      omega (arith, short, d .holds, eqb-true (shortSize m r) (8 + runHead (flagsOf m r) + stride (flagsOf m r) * countOf m r) (whole (leb (version m r) 1) _ e))
+
+  pub run-room : runSized m r ≡ true → h + 8 ≤ z
+  run-room e = omega (arith, filled e, head-low (flagsOf m r))
+
+  -- and all fields stand inside the slice
+  pub run-inside :
+      runSized m r ≡ true → (f n s k : ℕ) → f ≡ flagsOf m r → n ≡ countOf m r → s ≡ stride f → k ≡ runHead f → r + h + k + s * n ≤ length m
+  run-inside e f n s k flags count step fore = rw (fore, step, flags, count) (omega (arith, filled e, d .fits))
 
   -- its flags and its samples
   pub flags-are : (f : ℕ) → f ≡ be3 m (r + h + 1) → f ≡ flagsOf m r
@@ -66,13 +75,11 @@ module _ (m : List ℕ) (r h z : ℕ) (d : Framed m r h z) where
     unfolding runSized
     sized-is = rw (version-is, le-leb _ _ low, short, ← flags-are f flags, ← count-is n count, ← step, ← fore)
 
-    pub run-told : z ≡ h + k + s * n → saysTrun (Run f n (r + h)) m r
+    pub run-told : z ≡ h + k + s * n → saysTrun (Run f n) m r
     run-told e = (
       sized-is ∙ eq-eqb (z - h + 8) (8 + k + s * n) (omega (arith, e)),
       flags-are f flags,
       count-is n count,
-      rw (d .head),
-      omega (arith, d .high),
     )
 
     pub run-other : (z ≡ h + k + s * n → ⊥) → saysTrun Wrong m r

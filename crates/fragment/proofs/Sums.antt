@@ -11,7 +11,7 @@ use Rattle.rules.specs.Boxes.{headOf}
 use Rattle.rules.specs.Header.{field}
 use Rattle.rules.specs.declared.Defaults.{Defaults}
 use Rattle.rules.specs.Fragment.{bytesFor, flagsOf, runHead, stride, sampleAt, durationOf, bytesOf, sumTo}
-use Rattle.fragment.specs.Samples.{every, ownTicks, ownBytes, Spaced, Summed}
+use Rattle.fragment.specs.Samples.{every, ownTicks, ownBytes, Summed}
 
 -- a step that is whole inside as many steps
 pub step-inside : (from step n i l : ℕ) → i < n → from + step * n ≤ l → from + step * i + step ≤ l
@@ -23,10 +23,6 @@ step-none from step = omega (arith, mul-zero step)
 
 pub step-on : (from step i p : ℕ) → p ≡ from + step * i → p + step ≡ from + step * (i + 1)
 step-on from step i p e = rw (add-one, mul-suc) (omega arith)
-
--- how far the steps go
-pub step-low : {from step n : ℕ} → Spaced from step n → (i : ℕ) → i ≤ n → step * i ≤ 1048576
-step-low {from} {step} {n} s i h = omega (arith, mul-le-mul {n₁ = step} {m₁ = i} {n₂ = 16} {m₂ = 65536} (s .apart) (omega arith))
 
 -- no sample, one more, and all of them
 pub summed-none : (g : ℕ → ℕ) → Summed g 0 0

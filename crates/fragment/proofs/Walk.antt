@@ -109,10 +109,10 @@ module _ (base : ℕ) (m : List ℕ) (at : ℕ) (r : Runs) {y : Trun} (told : sa
       }
 
   pub and-sized :
-      (f n z : ℕ) → y ≡ Run f n z → (ok : Bool) → ok ≡ not (has f 0x4 && has f 0x400) →
+      (f n : ℕ) → y ≡ Run f n → (ok : Bool) → ok ≡ not (has f 0x4 && has f 0x400) →
       (c : ℕ) → ruleAt 16 c ≡ (ruleAt 16 (r .clash) then must ok 16 (base + at)) → n ≤ 4294967295 →
       AndRun base m at r (record { missized = r .missized; clash = c; samples = r .samples + n })
-  and-sized f n z w ok o c e low =
+  and-sized f n w ok o c e low =
       let t = subst (λ (z : Trun). saysTrun z m at) w told in
       record {
         missized = sym (ap (λ (q : Rule). ruleAt 15 (r .missized) then q) (must-true 15 (base + at) (t .0)) ∙ then-last (ruleAt 15 (r .missized)));

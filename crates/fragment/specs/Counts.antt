@@ -3,19 +3,16 @@ use Prim.Native.Nat.{ℕ, _+_, _≤_}
 use mathlib.Core.Path.{_≡_}
 use mathlib.Core.List.{List}
 use lib.ListN.{length, take}
-use lib.Dec.{eqb}
-use Rattle.numbers.specs.Numbers.{when}
 use Rattle.rules.specs.Kinds.{mfhd, traf, tfhd, tfdt, trun}
 use Rattle.rules.specs.Rules.{_then_}
-use Rattle.rules.specs.Boxes.{boxes, kids, child, again, seen, firstOf, placesOf, headOf}
+use Rattle.rules.specs.Boxes.{kids, child, seen, firstOf, placesOf, headOf}
 use Rattle.rules.specs.Header.{one, someOf}
 use Rattle.rules.specs.Fragment.{rule14, runsIn, shifted}
 use Rattle.rules.specs.declared.Rule.{Rule}
 use Rattle.rules.specs.declared.Rule.the-variants.{Holds, Breaks}
 use Rattle.rules.specs.declared.Seen.{Seen}
-use Rattle.rules.specs.declared.Seen.the-variants.{Never, Once, Twice}
+use Rattle.boxes.specs.Sights.{Sighted}
 use Rattle.fragment.specs.Runs.{runsAt, Surveys}
-use Rattle.fragment.specs.declared.counts.Sight.{Sight}
 use Rattle.fragment.specs.declared.counts.Trio.{Trio}
 use Rattle.fragment.specs.declared.counts.Traf.{Traf}
 use Rattle.fragment.specs.declared.counts.Count.{Count}
@@ -27,20 +24,6 @@ use Rattle.fragment.specs.declared.counts.InTraf.the-variants.{Three, Re
 use Rattle.fragment.specs.declared.counts.Moof.{Moof}
 use Rattle.fragment.specs.declared.counts.Found.{Found}
 use Rattle.fragment.specs.declared.counts.Found.the-variants.{All, Refused as allRefused}
-
--- what is seen by the places of the first and the second box, 0 where there is none
-unfoldable pub seenOf : Sight → Seen
-seenOf v = when (eqb (v .first) 0) Never (when (eqb (v .second) 0) (Once (v .first)) (Twice (v .first) (v .second)))
-
--- r is v with one box more seen at a place; what bounds that place and those of v bounds those of r
-pub record Again (v : Sight) (at : ℕ) (r : Sight) : Type 0 where
-  pub seen : seenOf r ≡ again at (seenOf v)
-  pub low : (n : ℕ) → at ≤ n → (v .first ≤ n) × (v .second ≤ n) → (r .first ≤ n) × (r .second ≤ n)
-
--- v is what is seen of a wanted type among the boxes of a slice from a place on
-pub record Sighted (s : List ℕ) (from w : ℕ) (v : Sight) : Type 0 where
-  pub all : seenOf v ≡ seen w (boxes s from)
-  pub low : (v .first ≤ length s) × (v .second ≤ length s)
 
 -- what is seen of three wanted types
 pub record SawThree (s : List ℕ) (from v w x : ℕ) (t : Trio) : Type 0 where
@@ -63,7 +46,7 @@ abbrev pub saysPlace : Count → ℕ → Type 0
 saysPlace (At a) r = Unit {0}
 saysPlace (Refused p) r = r ≡ p
 
--- a place is that of the first wanted box in the container at a place, and in the slice or just behind it
+-- a place is that of the first wanted box in the container at a place, and no more than the slice's length behind the header
 pub record Inside (m : List ℕ) (at w place : ℕ) : Type 0 where
   pub is : place ≡ child m at w
   pub low : place ≤ at + 16 + length m

@@ -35,9 +35,9 @@ pub record Framed (m : List ℕ) (at h z : ℕ) : Type 0 where
   pub holds : h ≤ z
   pub fits : at + z ≤ length m
 
--- a run is sized by its flags and its count, and its header ends at a place; or it is not
+-- a run is sized by its flags and its count; or it is not
 abbrev pub saysTrun : Trun → List ℕ → ℕ → Type 0
-saysTrun (Run f n p) m r = (runSized m r ≡ true) × (f ≡ flagsOf m r) × (n ≡ countOf m r) × (p ≡ r + headOf m r) × (p ≤ r + 16)
+saysTrun (Run f n) m r = (runSized m r ≡ true) × (f ≡ flagsOf m r) × (n ≡ countOf m r)
 saysTrun Wrong m r = runSized m r ≡ false
 
 -- q is what runs say, r, with the one at a place: one that is sized otherwise is the first such, if none was before; any other counts

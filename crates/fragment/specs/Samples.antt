@@ -17,12 +17,6 @@ ownTicks m from step flags x i = when (has flags 0x100) (every m from step i) x
 abbrev pub ownBytes : List ℕ → ℕ → ℕ → ℕ → ℕ → ℕ → ℕ
 ownBytes m from step flags x i = when (has flags 0x200) (every m (from + bytesFor 4 flags 0x100) step i) x
 
--- a place, a step and a number of samples with which nothing overflows
-pub record Spaced (from step n : ℕ) : Type 0 where
-  pub place : from ≤ 1099511627776
-  pub apart : step ≤ 16
-  pub count : n ≤ 65536
-
 -- a sum of the first n, each of 32 bits
 pub record Summed (g : ℕ → ℕ) (n sum : ℕ) : Type 0 where
   pub total : sum ≡ sumTo g n

@@ -4,10 +4,13 @@ ghost use Prim.Native.Nat.{_+_, _<_, _≤_};
 ghost use lib.ListN.{length, take};
 ghost use Rattle.rules.specs.Header.{oneOf, someOf};
 ghost use Rattle.rules.specs.Boxes.{boxes, seen, firstOf};
-ghost use Rattle.fragment.specs.Counts.{saysCount, saysPlace, saysInMoof, saysInTraf, saysFound, Inside, seenOf, Again, SawThree, SawTraf};
+ghost use Rattle.boxes.specs.Sights.{seenOf};
+ghost use Rattle.fragment.specs.Counts.{saysCount, saysPlace, saysInMoof, saysInTraf, saysFound, Inside, SawTraf};
 use crate::runs;
 use crate::runs::Runs;
+use boxes::NONE;
 use boxes::Next;
+use boxes::Sight;
 use boxes::kinds::MFHD;
 use boxes::kinds::TFDT;
 use boxes::kinds::TFHD;
@@ -27,7 +30,7 @@ pub enum InMoof {
     Refused(u64),
 }
 
-// The boxes of `traf`.
+// The boxes of `traf`, where they end, and what the runs say by themselves.
 pub enum InTraf {
     Three {
         tfhd: usize,
@@ -56,12 +59,6 @@ pub enum Found {
     Refused(u64),
 }
 
-// Where the first and the second box of a type stand; 0 where there is none.
-pub struct Sight {
-    pub first: usize,
-    pub second: usize,
-}
-
 // What is seen of three wanted types.
 pub struct Trio {
     pub a: Sight,
@@ -75,63 +72,7 @@ pub struct Traf {
     pub runs: Runs,
 }
 
-// What is seen after one box more at a place.
-fn again(v: Sight, at: usize) -> Sight
-    requires { ⌜ 0 < at ⌝ }
-    ensures { λ r. ⌜ Again v at r ⌝ }
-{
-    if v.first == 0 {
-        return Sight {
-            first: at,
-            second: 0,
-        };
-    }
-    if v.second == 0 {
-        return Sight {
-            first: v.first,
-            second: at,
-        };
-    }
-    v
-}
-
-// What is seen of three wanted types among the sibling boxes of a slice from a place on.
-fn tally(s: &[u8], from: usize, v: u32, w: u32, x: u32) -> Trio
-    requires { ⌜ (0 < from) × (0 < v) × (0 < w) × (0 < x) ⌝ }
-    ensures { λ r. ⌜ SawThree (now (s .entry)) from v w x r ⌝ }
-{
-    let mut at = from;
-    let mut a = Sight {
-        first: 0,
-        second: 0,
-    };
-    let mut b = Sight {
-        first: 0,
-        second: 0,
-    };
-    let mut c = Sight {
-        first: 0,
-        second: 0,
-    };
-    loop {
-        let l = boxes::look(s, at);
-        let Look::Header { size, kind, .. } = l else {
-            return Trio { a, b, c };
-        };
-        if kind == v {
-            a = again(a, at);
-        }
-        if kind == w {
-            b = again(b, at);
-        }
-        if kind == x {
-            c = again(c, at);
-        }
-        at += size;
-    }
-}
-
-// The boxes of a front of the `moof` from a place on, which are those of `traf`.
+// What is seen of the boxes in a front of the `moof` from a place on, which are those of `traf`, and what its runs say by themselves.
 fn walk_traf(m: &[u8], s: &[u8], from: usize, base: u64) -> Traf
     requires { ⌜ (length (now m) ≤ 4294967296) × (0 < from) × (base ≤ 4294967296) ⌝ }
     requires { ⌜ now s ≡ take (length (now s)) (now m) ⌝ }
@@ -164,13 +105,13 @@ fn walk_traf(m: &[u8], s: &[u8], from: usize, base: u64) -> Traf
             };
         };
         if kind == TFHD {
-            a = again(a, at);
+            a = boxes::again(a, at);
         }
         if kind == TFDT {
-            b = again(b, at);
+            b = boxes::again(b, at);
         }
         if kind == TRUN {
-            c = again(c, at);
+            c = boxes::again(c, at);
             runs = runs::and_run(m, at, head, size, base, runs);
         }
         at += size;
@@ -218,7 +159,7 @@ fn in_moof(m: &[u8], base: u64) -> InMoof
 {
     let o = fields::inner(m, 0);
     let end = o.end;
-    let seen = tally(&m[..end], o.from, MFHD, TRAF, TRAF);
+    let seen = boxes::tally(&m[..end], o.from, MFHD, TRAF, NONE, NONE, NONE);
     let mfhds = seen.a;
     let trafs = seen.b;
     let x = only(mfhds, base, base);

@@ -17,13 +17,9 @@ use boxes::kinds::TRUN;
 use rules::Defaults;
 use rules::Look;
 
-// What a `trun` says: its flags, its samples and where its header ends, or that it is sized otherwise.
+// What a `trun` says: its flags and its samples, or that it is sized otherwise.
 pub enum Trun {
-    Run {
-        flags: u32,
-        count: u32,
-        behind: usize,
-    },
+    Run { flags: u32, count: u32 },
     Wrong,
 }
 
@@ -60,11 +56,7 @@ fn read_trun(m: &[u8], r: usize, head: usize, size: usize) -> Trun
     let count = numbers::near4(m, behind + 4);
     let own = layout::stride(flags) as u64 * count as u64;
     if size as u64 == head as u64 + layout::run_head(flags) as u64 + own {
-        Trun::Run {
-            flags,
-            count,
-            behind,
-        }
+        Trun::Run { flags, count }
     } else {
         Trun::Wrong
     }
@@ -156,17 +148,17 @@ pub fn and_run(m: &[u8], at: usize, head: usize, size: usize, base: u64, r: Runs
 {
     let stands = base + at as u64;
     let run = read_trun(m, at, head, size);
-    match run {
-        Trun::Wrong => Runs {
+    let Trun::Run { flags, count } = run else {
+        return Runs {
             missized: first_place(r.missized, false, stands),
             clash: r.clash,
             samples: r.samples,
-        },
-        Trun::Run { flags, count, .. } => Runs {
-            missized: r.missized,
-            clash: first_place(r.clash, apart(flags), stands),
-            samples: r.samples + count as u64,
-        },
+        };
+    };
+    Runs {
+        missized: r.missized,
+        clash: first_place(r.clash, apart(flags), stands),
+        samples: r.samples + count as u64,
     }
 }
 

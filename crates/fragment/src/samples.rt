@@ -2,9 +2,8 @@
 ghost use mathlib.Core.Path.{_≡_};
 ghost use Prim.Native.Nat.{_+_, _*_, _≤_};
 ghost use lib.ListN.{length};
-ghost use Rattle.numbers.specs.Numbers.{be4};
 ghost use Rattle.rules.specs.Fragment.{stride};
-ghost use Rattle.fragment.specs.Samples.{every, ownTicks, ownBytes, Spaced, Summed};
+ghost use Rattle.fragment.specs.Samples.{every, ownTicks, ownBytes, Summed};
 use rules::Defaults;
 
 // Durations and sizes in all.
@@ -15,8 +14,7 @@ pub struct Sums {
 
 // The sum of n numbers, a step apart from a place, all inside the slice.
 fn sum_inside(m: &[u8], from: usize, step: usize, n: usize) -> u64
-    requires { ⌜ Spaced from step n ⌝ }
-    requires { ⌜ (4 ≤ step) × (from + step * n ≤ length (now m)) ⌝ }
+    requires { ⌜ (n ≤ 65536) × (4 ≤ step) × (from + step * n ≤ length (now m)) ⌝ }
     ensures { λ r. ⌜ Summed (every (now (m .entry)) from step) n r ⌝ }
 {
     let mut sum: u64 = 0;
@@ -30,26 +28,9 @@ fn sum_inside(m: &[u8], from: usize, step: usize, n: usize) -> u64
     sum
 }
 
-// The sum of n numbers, a step apart from a place, some of which may stand past the end.
-fn sum_past(m: &[u8], from: usize, step: usize, n: usize) -> u64
-    requires { ⌜ Spaced from step n ⌝ }
-    ensures { λ r. ⌜ Summed (every (now (m .entry)) from step) n r ⌝ }
-{
-    let mut sum: u64 = 0;
-    let mut p = from;
-    let mut i = 0;
-    while i < n {
-        sum += numbers::be4(m, p) as u64;
-        p += step;
-        i += 1;
-    }
-    sum
-}
-
 // The two sums of n pairs of numbers, a step apart from a place, all inside the slice.
 fn pairs_inside(m: &[u8], from: usize, step: usize, n: usize) -> Sums
-    requires { ⌜ Spaced from step n ⌝ }
-    requires { ⌜ (8 ≤ step) × (from + step * n ≤ length (now m)) ⌝ }
+    requires { ⌜ (n ≤ 65536) × (8 ≤ step) × (from + step * n ≤ length (now m)) ⌝ }
     ensures { λ r. ⌜ Summed (every (now (m .entry)) from step) n (r .ticks) ⌝ }
     ensures { λ r. ⌜ Summed (every (now (m .entry)) (from + 4) step) n (r .bytes) ⌝ }
 {
@@ -66,36 +47,6 @@ fn pairs_inside(m: &[u8], from: usize, step: usize, n: usize) -> Sums
     Sums { ticks, bytes }
 }
 
-// The sum of n numbers, a step apart from a place.
-fn sum(m: &[u8], from: usize, step: usize, n: usize) -> u64
-    requires { ⌜ Spaced from step n ⌝ }
-    requires { ⌜ 4 ≤ step ⌝ }
-    ensures { λ r. ⌜ Summed (every (now (m .entry)) from step) n r ⌝ }
-{
-    if from + step * n <= m.len() {
-        sum_inside(m, from, step, n)
-    } else {
-        sum_past(m, from, step, n)
-    }
-}
-
-// The two sums of n pairs of numbers, a step apart from a place.
-fn sum_pairs(m: &[u8], from: usize, step: usize, n: usize) -> Sums
-    requires { ⌜ Spaced (from + 4) step n ⌝ }
-    requires { ⌜ 8 ≤ step ⌝ }
-    ensures { λ r. ⌜ Summed (every (now (m .entry)) from step) n (r .ticks) ⌝ }
-    ensures { λ r. ⌜ Summed (every (now (m .entry)) (from + 4) step) n (r .bytes) ⌝ }
-{
-    if from + step * n <= m.len() {
-        pairs_inside(m, from, step, n)
-    } else {
-        Sums {
-            ticks: sum_past(m, from, step, n),
-            bytes: sum_past(m, from + 4, step, n),
-        }
-    }
-}
-
 // A value that n samples share, n times.
 fn times(n: usize, x: u32) -> u64
     requires { ⌜ n ≤ 65536 ⌝ }
@@ -104,26 +55,25 @@ fn times(n: usize, x: u32) -> u64
     n as u64 * x as u64
 }
 
-// The durations and the sizes of n samples whose fields stand a step apart from a place.
+// The durations and the sizes of n samples whose fields stand a step apart from a place, all inside the slice.
 pub fn sums_of(m: &[u8], from: usize, step: usize, n: usize, flags: u32, d: Defaults) -> Sums
-    requires { ⌜ Spaced (from + 4) step n ⌝ }
-    requires { ⌜ step ≡ stride flags ⌝ }
+    requires { ⌜ (n ≤ 65536) × (step ≡ stride flags) × (from + step * n ≤ length (now m)) ⌝ }
     ensures { λ r. ⌜ Summed (ownTicks (now (m .entry)) from step flags (d .duration)) n (r .ticks) ⌝ }
     ensures { λ r. ⌜ Summed (ownBytes (now (m .entry)) from step flags (d .size)) n (r .bytes) ⌝ }
 {
     if numbers::has(flags, 0x100) {
         if numbers::has(flags, 0x200) {
-            return sum_pairs(m, from, step, n);
+            return pairs_inside(m, from, step, n);
         }
         return Sums {
-            ticks: sum(m, from, step, n),
+            ticks: sum_inside(m, from, step, n),
             bytes: times(n, d.size),
         };
     }
     if numbers::has(flags, 0x200) {
         return Sums {
             ticks: times(n, d.duration),
-            bytes: sum(m, from, step, n),
+            bytes: sum_inside(m, from, step, n),
         };
     }
     Sums {

@@ -63,9 +63,9 @@ fn span(m: &[u8], base: u64, head: u64, payload: u64, s: Shaped) -> Fragment
     let x = s.boxes;
     let start = s.start;
     let own = s.own;
-    let traf = x.end;
+    let stop = x.end;
     let data = m.len() as u64;
-    let sums = runs::sum_runs(m, &m[..traf], x.run, base, own, data + head);
+    let sums = runs::sum_runs(m, &m[..stop], x.run, base, own, data + head);
     let place = base + x.run as u64;
     let last = end_at(start, sums.ticks);
     let End::At(end) = last else {

@@ -21,8 +21,8 @@ use Rattle.header.proofs.Own.{Own, own-track}
 use Rattle.header.proofs.Walks.{one-is, one-held, three-held, trak-held, mdia-held, five-held}
 
 -- past a rule that holds
-pub past : (c : Counted) {r x : Rule} (q : Rule) (p : Places) (n : ℕ) → r ≡ x → r ≡ Holds → CountsAs c q p n → CountsAs c (x then q) p n
-past c q p n e h k = rw (then-holds q (sym e ∙ h)) k
+pub past : (c : Counted) {x : Rule} (q : Rule) (p : Places) (n : ℕ) → x ≡ Holds → CountsAs c q p n → CountsAs c (x then q) p n
+past c q p n h k = rw (then-holds q h) k
 
 -- at a rule that breaks
 pub stopped :

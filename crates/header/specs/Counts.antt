@@ -1,57 +1,58 @@
 -- Rule 7 over one walk a container, and what its answers say.
-use Prim.Native.Nat.{ℕ, _+_, _-_, _≤_}
+use Prim.Native.Nat.{ℕ, _+_, _≤_}
 use mathlib.Core.Path.{_≡_}
 use mathlib.Core.List.{List}
-use lib.ListN.{length}
+use lib.ListN.{take}
+use lib.Dec.{eqb}
+use Rattle.numbers.specs.Numbers.{when}
 use Rattle.rules.specs.Kinds.{mvhd, tkhd, mdhd, hdlr, media, stbl, stsd, stts, stsc, stsz, stco, mvex, trex}
 use Rattle.rules.specs.Rules.{_then_}
-use Rattle.rules.specs.Boxes.{headOf, kids, child, seen, onSeen, firstOf}
-use Rattle.rules.specs.Header.{oneOf, atMostOneOf, one, trakIn, mdiaIn, minfIn, rule7minf, rule7dinf, rule7stbl}
+use Rattle.rules.specs.Boxes.{child}
+use Rattle.rules.specs.Header.{oneOf, one, trakIn, mdiaIn, minfIn, rule7minf, rule7dinf, rule7stbl}
 use Rattle.rules.specs.declared.Rule.{Rule}
 use Rattle.rules.specs.declared.Rule.the-variants.{Holds, Breaks}
-use Rattle.rules.specs.declared.Seen.{Seen}
 use Rattle.rules.specs.declared.Places.{Places}
-use Rattle.boxes.specs.Siblings.{secondOf, seenWithin}
+use Rattle.fields.specs.Extent.{ExtentAt}
+use Rattle.fields.specs.declared.Extent.{Extent}
+use Rattle.boxes.specs.Sights.{seenOf, Sighted}
+use Rattle.boxes.specs.declared.Sight.{Sight}
 use Rattle.header.specs.Within.{Within}
 use Rattle.header.specs.declared.Walk.{Walk}
 use Rattle.header.specs.declared.Upper.{Upper}
 use Rattle.header.specs.declared.Counted.{Counted}
 use Rattle.header.specs.declared.Counted.the-variants.{Found, Refused}
 
--- v is what is seen of a wanted type in the container at a place of m
-pub record Sees (m : List ℕ) (at w : ℕ) (v : Seen) : Type 0 where
-  pub all : v ≡ seen w (kids m at)
-  pub within : seenWithin v (length m - (at + headOf m at))
-  pub first : firstOf v ≤ length m
-  pub second : secondOf v ≤ length m
-
--- k is a walk over the container at a place of m, which starts at a base of the track
+-- k is a walk over the container at a place of m, which starts at a base of the track: over the boxes where the container's bytes stand
 pub record Walked (base : ℕ) (m : List ℕ) (at v w x y z : ℕ) (k : Walk) : Type 0 where
   pub container : k .container ≡ base + at
-  pub inner : k .inner ≡ base + at + headOf m at
-  pub from : k .from ≡ at + headOf m at
-  pub a : Sees m at v (k .a)
-  pub b : Sees m at w (k .b)
-  pub c : Sees m at x (k .c)
-  pub d : Sees m at y (k .d)
-  pub e : Sees m at z (k .e)
+  pub start : k .base ≡ base
+  pub inner : Extent
+  pub around : ExtentAt m at inner
+  pub a : Sighted (take (inner .end) m) (inner .from) v (k .a)
+  pub b : Sighted (take (inner .end) m) (inner .from) w (k .b)
+  pub c : Sighted (take (inner .end) m) (inner .from) x (k .c)
+  pub d : Sighted (take (inner .end) m) (inner .from) y (k .d)
+  pub e : Sighted (take (inner .end) m) (inner .from) z (k .e)
 
 -- what may be added to a walk's places without a test
 pub record Low (k : Walk) : Type 0 where
-  pub inner : k .inner ≤ 34359738368
-  pub from : k .from ≤ 34359738368
-  pub a : (firstOf (k .a) ≤ 4294967296) × (secondOf (k .a) ≤ 4294967296)
-  pub b : (firstOf (k .b) ≤ 4294967296) × (secondOf (k .b) ≤ 4294967296)
-  pub c : (firstOf (k .c) ≤ 4294967296) × (secondOf (k .c) ≤ 4294967296)
-  pub d : (firstOf (k .d) ≤ 4294967296) × (secondOf (k .d) ≤ 4294967296)
-  pub e : (firstOf (k .e) ≤ 4294967296) × (secondOf (k .e) ≤ 4294967296)
+  pub base : k .base ≤ 4294967296
+  pub a : (k .a .first ≤ 4294967296) × (k .a .second ≤ 4294967296)
+  pub b : (k .b .first ≤ 4294967296) × (k .b .second ≤ 4294967296)
+  pub c : (k .c .first ≤ 4294967296) × (k .c .second ≤ 4294967296)
+  pub d : (k .d .first ≤ 4294967296) × (k .d .second ≤ 4294967296)
+  pub e : (k .e .first ≤ 4294967296) × (k .e .second ≤ 4294967296)
+
+-- at most one box, by the place of the second
+unfoldable pub extraBy : ℕ → Sight → Rule
+extraBy base v = when (eqb (v .second) 0) Holds (Breaks 7 0 (base + v .second))
 
 -- rule 7 of one wanted type, by what a walk has seen of it
-abbrev pub oneBy : Walk → Seen → Rule
-oneBy k v = oneOf 7 (k .container) (k .inner) v
+abbrev pub oneBy : Walk → Sight → Rule
+oneBy k v = oneOf 7 (k .container) (k .base) (seenOf v)
 
-abbrev pub atMostOneBy : Walk → Seen → Rule
-atMostOneBy k v = atMostOneOf 7 (k .inner) v
+abbrev pub atMostOneBy : Walk → Sight → Rule
+atMostOneBy k v = extraBy (k .base) v
 
 -- one of each of three types
 unfoldable pub threeBy : Walk → Rule
@@ -69,24 +70,20 @@ mdiaBy k = oneBy k (k .a) then oneBy k (k .b) then atMostOneBy k (k .c) then one
 unfoldable pub fiveBy : Walk → Rule
 fiveBy k = oneBy k (k .a) then oneBy k (k .b) then oneBy k (k .c) then oneBy k (k .d) then oneBy k (k .e)
 
--- one box of type w in the container that was seen, if it was, from a place of m on
-unfoldable pub ifSeen : ℕ → List ℕ → ℕ → Seen → ℕ → Rule
-ifSeen base m from v w = onSeen v Holds (λ a. one 7 base m (from + a) w) (λ a b. one 7 base m (from + a) w)
-
--- the place of the first box seen by a walk
-abbrev pub placeBy : Walk → Seen → ℕ
-placeBy k v = k .from + firstOf v
+-- one box of type w in the container that was seen, if it was
+unfoldable pub ifSeen : ℕ → List ℕ → Sight → ℕ → Rule
+ifSeen base m v w = when (eqb (v .first) 0) Holds (one 7 base m (v .first) w)
 
 -- the places that the walks over `moov`, `trak` and `mdia` give
 unfoldable pub upperBy : Walk → Walk → Walk → Upper
 upperBy i j k =
     record {
-      mvhd = placeBy i (i .a);
-      tkhd = placeBy j (j .a);
-      mdhd = placeBy k (k .a);
-      hdlr = placeBy k (k .b);
-      minf = placeBy k (k .d);
-      mvex = placeBy i (i .c);
+      mvhd = i .a .first;
+      tkhd = j .a .first;
+      mdhd = k .a .first;
+      hdlr = k .b .first;
+      minf = k .d .first;
+      mvex = i .c .first;
     }
 
 -- and those that the walks over `minf`, `stbl` and `mvex` add
@@ -97,13 +94,13 @@ lowerBy u i j k =
       tkhd = u .tkhd;
       mdhd = u .mdhd;
       hdlr = u .hdlr;
-      media = placeBy i (i .a);
-      stsd = placeBy j (j .a);
-      stts = placeBy j (j .b);
-      stsc = placeBy j (j .c);
-      stsz = placeBy j (j .d);
-      stco = placeBy j (j .e);
-      trex = placeBy k (k .a);
+      media = i .a .first;
+      stsd = j .a .first;
+      stts = j .b .first;
+      stsc = j .c .first;
+      stsz = j .d .first;
+      stco = j .e .first;
+      trex = k .a .first;
     }
 
 -- the places that the containers above `minf` give

@@ -1,8 +1,8 @@
 // Rule 8: header box bodies.
 ghost use mathlib.Core.Path.{_≡_};
 ghost use Prim.Native.Nat.{_+_, _≤_};
-ghost use Rattle.rules.specs.Rules.{must};
-ghost use Rattle.rules.specs.Header.{versioned, atLeast, ftypSized, rule8};
+ghost use Rattle.rules.specs.Header.{ftypSized, rule8};
+ghost use Rattle.rules.specs.declared.Rule.the-variants.{Breaks};
 ghost use Rattle.header.specs.Groups.{rule8hdlr, rule8stco};
 ghost use Rattle.header.specs.Within.{Within};
 use crate::steps::must;
@@ -20,20 +20,16 @@ fn ftyp_sized(f: &[u8]) -> bool
     false
 }
 
-// Rule 8 for a box with a size for each of the versions 0 and 1.
-fn versioned(m: &[u8], base: u64, at: usize, a: u64, b: u64) -> Rule
+// Rule 8's refusal at a box.
+fn breaks8(base: u64, at: usize) -> Rule
     requires { ⌜ (base ≤ 4294967296) × (at ≤ 4294967296) ⌝ }
-    ensures { λ r. ⌜ r ≡ must (versioned (now (m .entry)) at a b) 8 (base + at) ⌝ }
+    ensures { λ r. ⌜ r ≡ Breaks 8 0 (base + at) ⌝ }
 {
-    must(fields::versioned(m, at, a, b), 8, base + at as u64)
-}
-
-// Rule 8 for a box of at least a size.
-fn at_least(m: &[u8], base: u64, at: usize, a: u64) -> Rule
-    requires { ⌜ (base ≤ 4294967296) × (at ≤ 4294967296) ⌝ }
-    ensures { λ r. ⌜ r ≡ must (atLeast (now (m .entry)) at a) 8 (base + at) ⌝ }
-{
-    must(fields::at_least(m, at, a), 8, base + at as u64)
+    Rule::Breaks {
+        number: 8,
+        track: 0,
+        place: base + at as u64,
+    }
 }
 
 // Rule 8 from `stco` on.
@@ -41,14 +37,12 @@ fn rule8stco(m: &[u8], base: u64, p: Places) -> Rule
     requires { ⌜ (base ≤ 4294967296) × Within p 4294967296 ⌝ }
     ensures { λ r. ⌜ r ≡ rule8stco base (now (m .entry)) p ⌝ }
 {
-    let stco = at_least(m, base, p.stco, 16);
-    let Rule::Holds = stco else {
-        return stco;
-    };
-    let stsz = at_least(m, base, p.stsz, 20);
-    let Rule::Holds = stsz else {
-        return stsz;
-    };
+    if !fields::at_least(m, p.stco, 16) {
+        return breaks8(base, p.stco);
+    }
+    if !fields::at_least(m, p.stsz, 20) {
+        return breaks8(base, p.stsz);
+    }
     let trex = p.trex;
     must(fields::plain(m, trex, 32), 8, base + trex as u64)
 }
@@ -58,22 +52,18 @@ fn rule8hdlr(m: &[u8], base: u64, p: Places) -> Rule
     requires { ⌜ (base ≤ 4294967296) × Within p 4294967296 ⌝ }
     ensures { λ r. ⌜ r ≡ rule8hdlr base (now (m .entry)) p ⌝ }
 {
-    let hdlr = at_least(m, base, p.hdlr, 32);
-    let Rule::Holds = hdlr else {
-        return hdlr;
-    };
-    let stsd = at_least(m, base, p.stsd, 16);
-    let Rule::Holds = stsd else {
-        return stsd;
-    };
-    let stts = at_least(m, base, p.stts, 16);
-    let Rule::Holds = stts else {
-        return stts;
-    };
-    let stsc = at_least(m, base, p.stsc, 16);
-    let Rule::Holds = stsc else {
-        return stsc;
-    };
+    if !fields::at_least(m, p.hdlr, 32) {
+        return breaks8(base, p.hdlr);
+    }
+    if !fields::at_least(m, p.stsd, 16) {
+        return breaks8(base, p.stsd);
+    }
+    if !fields::at_least(m, p.stts, 16) {
+        return breaks8(base, p.stts);
+    }
+    if !fields::at_least(m, p.stsc, 16) {
+        return breaks8(base, p.stsc);
+    }
     rule8stco(m, base, p)
 }
 
@@ -86,17 +76,14 @@ pub fn rule8(f: &[u8], m: &[u8], base: u64, p: Places) -> Rule
     let Rule::Holds = ftyp else {
         return ftyp;
     };
-    let mvhd = versioned(m, base, p.mvhd, 108, 120);
-    let Rule::Holds = mvhd else {
-        return mvhd;
-    };
-    let tkhd = versioned(m, base, p.tkhd, 92, 104);
-    let Rule::Holds = tkhd else {
-        return tkhd;
-    };
-    let mdhd = versioned(m, base, p.mdhd, 32, 44);
-    let Rule::Holds = mdhd else {
-        return mdhd;
-    };
+    if !fields::versioned(m, p.mvhd, 108, 120) {
+        return breaks8(base, p.mvhd);
+    }
+    if !fields::versioned(m, p.tkhd, 92, 104) {
+        return breaks8(base, p.tkhd);
+    }
+    if !fields::versioned(m, p.mdhd, 32, 44) {
+        return breaks8(base, p.mdhd);
+    }
     rule8hdlr(m, base, p)
 }

@@ -1,28 +1,27 @@
 // Rule 7, container by container: one walk over its boxes, then the counts in the paper's order.
 ghost use mathlib.Core.Path.{_≡_};
-ghost use Prim.Native.Nat.{_+_, _≤_};
+ghost use Prim.Native.Nat.{_<_, _≤_};
 ghost use lib.ListN.{length};
 ghost use Rattle.rules.specs.Kinds.{elst};
-ghost use Rattle.rules.specs.Boxes.{firstOf};
-ghost use Rattle.rules.specs.Header.{oneOf, atMostOneOf, one};
-ghost use Rattle.boxes.specs.Siblings.{secondOf};
-ghost use Rattle.header.specs.Counts.{Walked, Low, threeBy, trakBy, mdiaBy, fiveBy, ifSeen};
+ghost use Rattle.rules.specs.Header.{oneOf, one};
+ghost use Rattle.boxes.specs.Sights.{seenOf};
+ghost use Rattle.header.specs.Counts.{Walked, Low, extraBy, threeBy, trakBy, mdiaBy, fiveBy, ifSeen};
 use crate::Walk;
+use boxes::NONE;
+use boxes::Sight;
 use boxes::kinds::ELST;
 use rules::Rule;
-use rules::Seen;
 
-// A want that nobody looks at.
-pub const NONE: u32 = 1;
-
-// What is seen of five wanted types in the container at a place of `moov`.
+// What is seen of five wanted types in the container at a place of `moov`; only the first may be the media headers.
 pub fn walk(m: &[u8], base: u64, at: usize, a: u32, b: u32, c: u32, d: u32, e: u32) -> Walk
     requires { ⌜ (base ≤ 4294967296) × (at ≤ 17179869184) × (length (now m) ≤ 4294967296) ⌝ }
+    requires { ⌜ (0 < b) × (0 < c) × (0 < d) × (0 < e) ⌝ }
     ensures { λ r. ⌜ Walked base (now (m .entry)) at a b c d e r ⌝ }
     ensures { λ r. ⌜ Low r ⌝ }
 {
-    let head = fields::head_of(m, at);
-    let t = boxes::tally(fields::body(m, at), a, b, c, d, e);
+    let o = fields::inner(m, at);
+    let end = o.end;
+    let t = boxes::tally(&m[..end], o.from, a, b, c, d, e);
     let container = base + at as u64;
     let va = t.a;
     let vb = t.b;
@@ -31,8 +30,7 @@ pub fn walk(m: &[u8], base: u64, at: usize, a: u32, b: u32, c: u32, d: u32, e: u
     let ve = t.e;
     Walk {
         container,
-        inner: container + head as u64,
-        from: at + head,
+        base,
         a: va,
         b: vb,
         c: vc,
@@ -42,50 +40,32 @@ pub fn walk(m: &[u8], base: u64, at: usize, a: u32, b: u32, c: u32, d: u32, e: u
 }
 
 // Rule 7 for a type of which there is one box.
-pub fn one(seen: Seen, container: u64, inner: u64) -> Rule
-    requires { ⌜ (inner ≤ 34359738368) × (secondOf seen ≤ 4294967296) ⌝ }
-    ensures { λ r. ⌜ r ≡ oneOf 7 container inner seen ⌝ }
+pub fn one(seen: Sight, container: u64, base: u64) -> Rule
+    requires { ⌜ (base ≤ 4294967296) × (seen .second ≤ 4294967296) ⌝ }
+    ensures { λ r. ⌜ r ≡ oneOf 7 container base (seenOf seen) ⌝ }
 {
-    match seen {
-        Seen::Never => Rule::Breaks {
+    if seen.first == 0 {
+        return Rule::Breaks {
             number: 7,
             track: 0,
             place: container,
-        },
-        Seen::Once(_) => Rule::Holds,
-        Seen::Twice(_, extra) => Rule::Breaks {
-            number: 7,
-            track: 0,
-            place: inner + extra as u64,
-        },
+        };
     }
+    at_most_one(seen, base)
 }
 
 // Rule 7 for a type of which there is at most one box.
-fn at_most_one(seen: Seen, inner: u64) -> Rule
-    requires { ⌜ (inner ≤ 34359738368) × (secondOf seen ≤ 4294967296) ⌝ }
-    ensures { λ r. ⌜ r ≡ atMostOneOf 7 inner seen ⌝ }
+fn at_most_one(seen: Sight, base: u64) -> Rule
+    requires { ⌜ (base ≤ 4294967296) × (seen .second ≤ 4294967296) ⌝ }
+    ensures { λ r. ⌜ r ≡ extraBy base seen ⌝ }
 {
-    match seen {
-        Seen::Never => Rule::Holds,
-        Seen::Once(_) => Rule::Holds,
-        Seen::Twice(_, extra) => Rule::Breaks {
-            number: 7,
-            track: 0,
-            place: inner + extra as u64,
-        },
+    if seen.second == 0 {
+        return Rule::Holds;
     }
-}
-
-// The place in `moov` of the first box seen.
-pub fn place(from: usize, seen: Seen) -> usize
-    requires { ⌜ (from ≤ 34359738368) × (firstOf seen ≤ 4294967296) ⌝ }
-    ensures { λ r. ⌜ r ≡ from + firstOf seen ⌝ }
-{
-    match seen {
-        Seen::Never => from,
-        Seen::Once(a) => from + a,
-        Seen::Twice(a, _) => from + a,
+    Rule::Breaks {
+        number: 7,
+        track: 0,
+        place: base + seen.second as u64,
     }
 }
 
@@ -95,17 +75,17 @@ pub fn three(k: Walk) -> Rule
     ensures { λ r. ⌜ r ≡ threeBy k ⌝ }
 {
     let seen = k.a;
-    let a = one(seen, k.container, k.inner);
+    let a = one(seen, k.container, k.base);
     let Rule::Holds = a else {
         return a;
     };
     let seen = k.b;
-    let b = one(seen, k.container, k.inner);
+    let b = one(seen, k.container, k.base);
     let Rule::Holds = b else {
         return b;
     };
     let seen = k.c;
-    one(seen, k.container, k.inner)
+    one(seen, k.container, k.base)
 }
 
 // Rule 7 for `trak`.
@@ -114,17 +94,17 @@ pub fn in_trak(k: Walk) -> Rule
     ensures { λ r. ⌜ r ≡ trakBy k ⌝ }
 {
     let seen = k.a;
-    let tkhd = one(seen, k.container, k.inner);
+    let tkhd = one(seen, k.container, k.base);
     let Rule::Holds = tkhd else {
         return tkhd;
     };
     let seen = k.b;
-    let edts = at_most_one(seen, k.inner);
+    let edts = at_most_one(seen, k.base);
     let Rule::Holds = edts else {
         return edts;
     };
     let seen = k.c;
-    one(seen, k.container, k.inner)
+    one(seen, k.container, k.base)
 }
 
 // Rule 7 for `mdia`.
@@ -133,22 +113,22 @@ pub fn in_mdia(k: Walk) -> Rule
     ensures { λ r. ⌜ r ≡ mdiaBy k ⌝ }
 {
     let seen = k.a;
-    let mdhd = one(seen, k.container, k.inner);
+    let mdhd = one(seen, k.container, k.base);
     let Rule::Holds = mdhd else {
         return mdhd;
     };
     let seen = k.b;
-    let hdlr = one(seen, k.container, k.inner);
+    let hdlr = one(seen, k.container, k.base);
     let Rule::Holds = hdlr else {
         return hdlr;
     };
     let seen = k.c;
-    let elng = at_most_one(seen, k.inner);
+    let elng = at_most_one(seen, k.base);
     let Rule::Holds = elng else {
         return elng;
     };
     let seen = k.d;
-    one(seen, k.container, k.inner)
+    one(seen, k.container, k.base)
 }
 
 // Rule 7 for a container with one box of each of five types: `stbl`.
@@ -157,27 +137,27 @@ pub fn five(k: Walk) -> Rule
     ensures { λ r. ⌜ r ≡ fiveBy k ⌝ }
 {
     let seen = k.a;
-    let stsd = one(seen, k.container, k.inner);
+    let stsd = one(seen, k.container, k.base);
     let Rule::Holds = stsd else {
         return stsd;
     };
     let seen = k.b;
-    let stts = one(seen, k.container, k.inner);
+    let stts = one(seen, k.container, k.base);
     let Rule::Holds = stts else {
         return stts;
     };
     let seen = k.c;
-    let stsc = one(seen, k.container, k.inner);
+    let stsc = one(seen, k.container, k.base);
     let Rule::Holds = stsc else {
         return stsc;
     };
     let seen = k.d;
-    let stsz = one(seen, k.container, k.inner);
+    let stsz = one(seen, k.container, k.base);
     let Rule::Holds = stsz else {
         return stsz;
     };
     let seen = k.e;
-    one(seen, k.container, k.inner)
+    one(seen, k.container, k.base)
 }
 
 // Rule 7 for a container with one box of one type.
@@ -187,17 +167,16 @@ pub fn single(m: &[u8], base: u64, at: usize, want: u32) -> Rule
 {
     let k = walk(m, base, at, want, NONE, NONE, NONE, NONE);
     let seen = k.a;
-    one(seen, k.container, k.inner)
+    one(seen, k.container, k.base)
 }
 
 // Rule 7 for `edts`, if there.
-pub fn in_edts(m: &[u8], base: u64, from: usize, edts: Seen) -> Rule
-    requires { ⌜ (base ≤ 4294967296) × (from ≤ 8589934592) × (firstOf edts ≤ 4294967296) × (length (now m) ≤ 4294967296) ⌝ }
-    ensures { λ r. ⌜ r ≡ ifSeen base (now (m .entry)) from edts elst ⌝ }
+pub fn in_edts(m: &[u8], base: u64, edts: Sight) -> Rule
+    requires { ⌜ (base ≤ 4294967296) × (edts .first ≤ 4294967296) × (length (now m) ≤ 4294967296) ⌝ }
+    ensures { λ r. ⌜ r ≡ ifSeen base (now (m .entry)) edts elst ⌝ }
 {
-    match edts {
-        Seen::Never => Rule::Holds,
-        Seen::Once(a) => single(m, base, from + a, ELST),
-        Seen::Twice(a, _) => single(m, base, from + a, ELST),
+    if edts.first == 0 {
+        return Rule::Holds;
     }
+    single(m, base, edts.first, ELST)
 }

@@ -3,20 +3,19 @@ ghost use mathlib.Core.Path.{_≡_};
 ghost use Prim.Native.Nat.{_≤_};
 ghost use lib.ListN.{length};
 ghost use Rattle.rules.specs.Header.{rule7, placesIn};
-ghost use Rattle.header.specs.Counts.{Low, upperBy, lowerBy, UpperWithin, rule7lower, placesBy, CountsAs, refusal};
+ghost use Rattle.header.specs.Counts.{upperBy, lowerBy, UpperWithin, rule7lower, placesBy, CountsAs, refusal};
 use crate::Counted;
 use crate::Upper;
 use crate::Walk;
-use crate::containers::NONE;
 use crate::containers::five;
 use crate::containers::in_edts;
 use crate::containers::in_mdia;
 use crate::containers::in_trak;
 use crate::containers::one;
-use crate::containers::place;
 use crate::containers::single;
 use crate::containers::three;
 use crate::containers::walk;
+use boxes::NONE;
 use boxes::kinds::DINF;
 use boxes::kinds::DREF;
 use boxes::kinds::EDTS;
@@ -57,7 +56,6 @@ fn refusal(r: Rule) -> Counted
 
 // The places that the walks over `moov`, `trak` and `mdia` give.
 fn upper(moov: Walk, trak: Walk, mdia: Walk) -> Upper
-    requires { ⌜ Low moov × Low trak × Low mdia ⌝ }
     ensures { λ r. ⌜ r ≡ upperBy moov trak mdia ⌝ }
 {
     let mvhd = moov.a;
@@ -67,18 +65,17 @@ fn upper(moov: Walk, trak: Walk, mdia: Walk) -> Upper
     let hdlr = mdia.b;
     let minf = mdia.d;
     Upper {
-        mvhd: place(moov.from, mvhd),
-        tkhd: place(trak.from, tkhd),
-        mdhd: place(mdia.from, mdhd),
-        hdlr: place(mdia.from, hdlr),
-        minf: place(mdia.from, minf),
-        mvex: place(moov.from, mvex),
+        mvhd: mvhd.first,
+        tkhd: tkhd.first,
+        mdhd: mdhd.first,
+        hdlr: hdlr.first,
+        minf: minf.first,
+        mvex: mvex.first,
     }
 }
 
 // The places of the header's boxes, with those that the walks over `minf`, `stbl` and `mvex` give.
 fn lower(u: Upper, minf: Walk, stbl: Walk, mvex: Walk) -> Places
-    requires { ⌜ Low minf × Low stbl × Low mvex ⌝ }
     ensures { λ r. ⌜ r ≡ lowerBy u minf stbl mvex ⌝ }
 {
     let media = minf.a;
@@ -93,13 +90,13 @@ fn lower(u: Upper, minf: Walk, stbl: Walk, mvex: Walk) -> Places
         tkhd: u.tkhd,
         mdhd: u.mdhd,
         hdlr: u.hdlr,
-        media: place(minf.from, media),
-        stsd: place(stbl.from, stsd),
-        stts: place(stbl.from, stts),
-        stsc: place(stbl.from, stsc),
-        stsz: place(stbl.from, stsz),
-        stco: place(stbl.from, stco),
-        trex: place(mvex.from, trex),
+        media: media.first,
+        stsd: stsd.first,
+        stts: stts.first,
+        stsc: stsc.first,
+        stsz: stsz.first,
+        stco: stco.first,
+        trex: trex.first,
     }
 }
 
@@ -115,11 +112,11 @@ fn rule7lower(m: &[u8], base: u64, u: Upper) -> Counted
     };
     let in_dinf = minf.b;
     let in_stbl = minf.c;
-    let dref = single(m, base, place(minf.from, in_dinf), DREF);
+    let dref = single(m, base, in_dinf.first, DREF);
     let Rule::Holds = dref else {
         return refusal(dref);
     };
-    let at = place(minf.from, in_stbl);
+    let at = in_stbl.first;
     let stbl = walk(m, base, at, STSD, STTS, STSC, STSZ, STCO);
     let tables = five(stbl);
     let Rule::Holds = tables else {
@@ -127,7 +124,7 @@ fn rule7lower(m: &[u8], base: u64, u: Upper) -> Counted
     };
     let mvex = walk(m, base, u.mvex, TREX, NONE, NONE, NONE, NONE);
     let seen = mvex.a;
-    let trex = one(seen, mvex.container, mvex.inner);
+    let trex = one(seen, mvex.container, mvex.base);
     let Rule::Holds = trex else {
         return refusal(trex);
     };
@@ -145,19 +142,19 @@ pub fn rule7(m: &[u8], base: u64) -> Counted
         return refusal(boxes);
     };
     let seen = moov.b;
-    let at = place(moov.from, seen);
+    let at = seen.first;
     let trak = walk(m, base, at, TKHD, EDTS, MDIA, NONE, NONE);
     let track = in_trak(trak);
     let Rule::Holds = track else {
         return refusal(track);
     };
     let edts = trak.b;
-    let edits = in_edts(m, base, trak.from, edts);
+    let edits = in_edts(m, base, edts);
     let Rule::Holds = edits else {
         return refusal(edits);
     };
     let seen = trak.c;
-    let at = place(trak.from, seen);
+    let at = seen.first;
     let mdia = walk(m, base, at, MDHD, HDLR, ELNG, MINF, NONE);
     let media = in_mdia(mdia);
     let Rule::Holds = media else {

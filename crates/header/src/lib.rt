@@ -5,12 +5,12 @@ ghost use lib.ListN.{length};
 ghost use Rattle.rules.specs.Header.{rules7to13, placesIn, headerIn};
 ghost use Rattle.header.specs.Heads.{HeadsAs, headsWithin, handed, refused};
 use bodies::rule8;
+use boxes::Sight;
 use brands::rule9;
 use counts::rule7;
 use rules::Header;
 use rules::Places;
 use rules::Rule;
-use rules::Seen;
 use values::rules10to13;
 use values::tells;
 
@@ -21,17 +21,16 @@ mod counts;
 mod steps;
 mod values;
 
-// One walk over the boxes of a container: its place in the track, its first box's place in the track and in `moov`, and
-// what is seen of five wanted types.
+// One walk over the boxes of a container: its place and that of `moov` in the track, and what is seen of five wanted types,
+// at places of `moov`.
 pub struct Walk {
     pub container: u64,
-    pub inner: u64,
-    pub from: usize,
-    pub a: Seen,
-    pub b: Seen,
-    pub c: Seen,
-    pub d: Seen,
-    pub e: Seen,
+    pub base: u64,
+    pub a: Sight,
+    pub b: Sight,
+    pub c: Sight,
+    pub d: Sight,
+    pub e: Sight,
 }
 
 // The places in `moov` that the containers above `minf` give.

@@ -1,17 +1,15 @@
 -- Laws of rules 25 to 28: the boundaries side by side, and the rules in their order.
 use mathlib.Core.Path.{_≡_, refl, sym, ap, ap₂, _∙_}
-use mathlib.Core.List.{List, [], _∷_, _++_, map}
-use mathlib.Core.Bool.{Bool, true, false}
-use Prim.Native.Nat.{ℕ, suc, _+_, _≤_}
+use mathlib.Core.List.{List, [], _∷_, _++_}
+use Prim.Native.Nat.{ℕ, _+_, _≤_}
 use native.Mathlib.Omega.{arith}
-use lib.ListN.{length, take, drop}
-use lib.Dec.{eqb}
+use lib.ListN.{length, take}
 use borrow.Author.Tests.{eq-eqb, ne-eqb}
 use Rattle.rules.specs.Kinds.{moof}
-use Rattle.rules.specs.Rules.{_then_, must}
+use Rattle.rules.specs.Rules.{_then_}
 use Rattle.rules.specs.Boxes.{boxes, placesOf}
 use Rattle.rules.specs.Track.{fragments, fragmentsFrom, fragmentCount, timescale, boundaries, startAt}
-use Rattle.rules.specs.Set.{handler, hdlrAt, mdhdAt, rule25, rule26, rule27, rule28, rule28From, firstOr, agrees}
+use Rattle.rules.specs.Set.{handler, hdlrAt, mdhdAt, rule25, rule26, rule27, rule28, rule28From, agrees}
 use Rattle.rules.proofs.Then.{then-holds, then-breaks, then-last, must-true, must-false}
 use Rattle.rules.specs.declared.Rule.{Rule}
 use Rattle.rules.specs.declared.Rule.the-variants.{Holds, Breaks}

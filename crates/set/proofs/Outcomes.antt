@@ -7,11 +7,11 @@ use lib.ListN.{length, take, drop}
 use types.Run.{OneOf}
 use borrow.Author.Tests.{le-leb, lt-leb}
 use denote.Enum.Declared.{tagOf}
-use Rattle.rules.specs.Limits.{byteLimit, recordLimit}
+use Rattle.rules.specs.Limits.{byteLimit}
 use Rattle.rules.specs.Rules.{_then_, ofTrack}
-use Rattle.rules.specs.Bundle.{recordAt, rule24, tracks, tracksOf, records}
+use Rattle.rules.specs.Bundle.{recordAt, rule24, tracks, records}
 use Rattle.rules.specs.Track.{rule1, ruling, fragmentCount, timescale, boundaries, roomFor, refused}
-use Rattle.rules.specs.Set.{rulings, agree, track0, setRuling, bundleRuling, setOutcome}
+use Rattle.rules.specs.Set.{rulings, agree, setRuling, bundleRuling, setOutcome}
 use Rattle.rules.proofs.Then.{then-holds, then-breaks, then-assoc, must-true, must-false}
 use Rattle.rules.proofs.Mark.{the-type}
 use Rattle.rules.specs.declared.Mark.{Mark}

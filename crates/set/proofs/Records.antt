@@ -1,7 +1,7 @@
 -- Laws of the records: what stands at a place, one record more, and where they end.
 use mathlib.Core.Path.{_≡_, refl, sym, ap, _∙_}
-use mathlib.Core.List.{List, [], _∷_}
-use mathlib.Core.Bool.{Bool, true, false}
+use mathlib.Core.List.{List}
+use mathlib.Core.Bool.{Bool, false}
 use Prim.Native.Nat.{ℕ, zero, suc, _+_, _-_, _≤_, _<_}
 use native.Mathlib.Omega.{arith}
 use lib.ListN.{length}
@@ -9,14 +9,11 @@ use lib.Dec.{eqb, ltb, eqb·suc-zero}
 use borrow.Author.Tests.{eq-eqb, ne-eqb, lt-ltb, le-ltb}
 use Rattle.numbers.specs.Numbers.{be2, be4, when}
 use Rattle.rules.specs.Limits.{recordLimit}
-use Rattle.rules.specs.Boxes.{part}
 use Rattle.rules.specs.Bundle.{mark, lengthed, markAt, recordAt, onMark, Records, none, wrong, track, recordsFrom, records, rule24From, rule24, tracksOf, tracks}
 use Rattle.rules.specs.declared.Mark.{Mark}
 use Rattle.rules.specs.declared.Mark.the-variants.{Nothing, Wrong, Track}
-use Rattle.rules.specs.declared.Rule.{Rule}
 use Rattle.rules.specs.declared.Rule.the-variants.{Holds, Breaks}
 use Rattle.set.specs.Says.{saysBundle, endedOf}
-use Rattle.set.specs.declared.bundle.Bundled.the-variants.{Framed, Broken}
 
 module _ (b : List ℕ) (at : ℕ) where
   pub mark-nothing : length b ≤ at → Nothing ≡ recordAt b at

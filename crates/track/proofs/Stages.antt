@@ -1,5 +1,5 @@
 -- Laws of the stages: what each hands up.
-use mathlib.Core.Path.{_≡_, refl, sym, ap, ap₂, _∙_}
+use mathlib.Core.Path.{_≡_, sym, ap, ap₂, _∙_}
 use mathlib.Core.List.{List}
 use Prim.Native.Nat.{ℕ, _+_, _≤_, _<_}
 use native.Mathlib.Omega.{arith}
@@ -15,7 +15,6 @@ use Rattle.rules.specs.Boxes.{whole}
 use Rattle.rules.specs.Track.{moovAt, moovOf, ftypOf, headerOf, fragments, fragmentCount, timescale, rules14to22, rulesOfHeader, rule1, ruling}
 use Rattle.rules.specs.Set.{handler, hdlrAt, mdhdAt}
 use Rattle.rules.specs.declared.Header.{Header}
-use Rattle.rules.specs.declared.Rule.{Rule}
 use Rattle.rules.specs.declared.Rule.the-variants.{Holds, Breaks}
 use Rattle.header.specs.Heads.{HeadsAs, headsWithin}
 use Rattle.header.specs.declared.Facts.{Facts}

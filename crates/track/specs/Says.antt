@@ -1,18 +1,17 @@
 -- What each answer of the track check says, case by case, in the paper's numbers.
-use Prim.Native.Nat.{ℕ, _+_, _≤_}
+use Prim.Native.Nat.{ℕ, _≤_}
 use mathlib.Core.Path.{_≡_}
 use mathlib.Core.List.{List, [], _∷_, map}
 use lib.ListN.{length, take}
 use Rattle.rules.specs.Rules.{_then_}
 use Rattle.rules.specs.Limits.{tickLimit}
 use Rattle.rules.specs.Header.{placesIn}
-use Rattle.rules.specs.Track.{moovAt, moovOf, headerOf, fragments, fragmentCount, timescale, shapeAt, timingAt, startAt, endAt, rules14to22, rulesOfHeader, ruling}
+use Rattle.rules.specs.Track.{moovAt, moovOf, headerOf, fragments, fragmentCount, timescale, shapeAt, timingAt, startAt, endAt, rules14to22}
 use Rattle.rules.specs.Set.{handler, hdlrAt, mdhdAt}
 use Rattle.rules.specs.declared.Header.{Header}
 use Rattle.rules.specs.declared.Rule.{Rule}
 use Rattle.rules.specs.declared.Rule.the-variants.{Holds, Breaks}
 use Rattle.fragment.specs.declared.Fragment.{Fragment}
-use Rattle.header.specs.declared.Headed.{Headed}
 use Rattle.track.specs.declared.Ordered.{Ordered}
 use Rattle.track.specs.declared.Ordered.the-variants.{Good, Wrong}
 use Rattle.track.specs.declared.Walk.{Walk}

@@ -21,10 +21,12 @@ use rules::Verdict;
 
 pub mod order;
 
-// The starts that are kept while a track is checked: no track of 4,096 boxes has more fragments.
+// The starts that are kept while a track is checked. No accepted track has more fragments: of its 4,096 boxes 20 stand before them, and
+// each has seven.
 pub const START_ROOM: usize = 582;
 
-// What is known of an accepted track: the places of `hdlr` and `mdhd` in it, and the last fragment's end.
+// What is known of an accepted track: its number of fragments, its timescale and handler, the places of `hdlr` and `mdhd` in it, and the
+// last fragment's end.
 pub struct Facts {
     pub fragments: u64,
     pub timescale: u32,

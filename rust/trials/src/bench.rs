@@ -74,10 +74,11 @@ fn bench_input(
     bytes: &[u8],
 ) -> Result<f64, String> {
     // Only what agrees is worth comparing for speed.
-    let number = compare(tried, job, bytes, &mut vec![0; AMPLE])?.number;
+    let input = format!("{} {name}, {state}", job.name());
+    let agreed = compare(tried, job, bytes, &mut vec![0; AMPLE]);
+    let number = agreed.map_err(|difference| format!("{input}: {difference}"))?.number;
     let [time, right] = measure([tried, Judge::REFERENCE], job, bytes);
     let ratio = time / right;
-    let input = format!("{} {name}, {state}", job.name());
     println!("{input:48} {number:>6} {time:>12.0} {right:>12.0} {ratio:>6.2}");
     Ok(ratio)
 }

@@ -29,7 +29,8 @@ usage: trials run [--seed S] [--from K] [--cases N]
        trials stack                                worst inputs in 64 KiB of stack
        trials bench                                the archive's time beside the reference's
        trials slowest [--seed S] [--from K] [--cases N]
-                                                   drawn inputs from 10 KiB on, the slowest beside the reference
+                                                   drawn inputs from 10 KiB on and crowded tracks, the slowest
+                                                   beside the reference
        trials vectors [--seed S] [--cases N] [--max BYTES]
                                                    write cases.bin, expected.txt, names.txt
        trials dump NAME                            write an example to standard output

@@ -12,6 +12,8 @@ const LEAST_BYTES: usize = 10 << 10;
 /// Of a call that ends sooner the call itself is most.
 const LEAST_NANOSECONDS: f64 = 100.0;
 const LISTED: usize = 20;
+/// More than this is too slow.
+const LIMIT: f64 = 1.5;
 /// An input over this is timed again, so that a pause of the machine is not taken for it.
 const SUSPECT: f64 = 1.3;
 
@@ -24,7 +26,7 @@ struct Timed {
 pub fn slowest(tried: Judge, seed: u64, from: u64, cases: u64) -> Result<(), String> {
     let mut all = Vec::new();
     for job in Job::ALL {
-        for number in from..from + cases {
+        for number in from..from.saturating_add(cases) {
             let drawn = Drawn::make(job, seed, number);
             if drawn.case.bytes.len() >= LEAST_BYTES {
                 all.push(timed(tried, drawn.name(), job, &drawn.case.bytes)?);
@@ -43,19 +45,20 @@ pub fn slowest(tried: Judge, seed: u64, from: u64, cases: u64) -> Result<(), Str
     for timed in all.iter().take(LISTED) {
         println!("{:.2} {}", timed.ratio, timed.input);
     }
-    let over = all.iter().filter(|timed| timed.ratio > 1.5).count();
-    println!("{over} of {} inputs over 1.5", all.len());
+    let over = all.iter().filter(|timed| timed.ratio > LIMIT).count();
+    println!("{over} of {} inputs over {LIMIT}", all.len());
     Ok(())
 }
 
 fn timed(tried: Judge, name: String, job: Job, bytes: &[u8]) -> Result<Timed, String> {
     let measure = || rivals(tried, job, bytes);
-    let mut times = measure()?;
+    let named = |difference| format!("{name}: {difference}");
+    let mut times = measure().map_err(named)?;
     for _ in 0..4 {
         if times.ratio() <= SUSPECT {
             break;
         }
-        times = times.best(measure()?);
+        times = times.best(measure().map_err(named)?);
     }
     let ratio = times.ratio();
     let [own, right] = times.nanoseconds;
@@ -66,13 +69,16 @@ fn timed(tried: Judge, name: String, job: Job, bytes: &[u8]) -> Result<Timed, St
 
 fn where_in(front: bool) -> &'static str {
     if front {
-        "in front in"
+        "at the front of"
     } else {
         "at the end of"
     }
 }
 
 fn spelled(path: &[Step]) -> String {
-    let kinds: Vec<_> = path.iter().map(|(kind, _)| String::from_utf8_lossy(kind)).collect();
-    kinds.join("/")
+    let step = |(kind, nth): &Step| match nth {
+        0 => String::from_utf8_lossy(kind).into_owned(),
+        _ => format!("{} {nth}", String::from_utf8_lossy(kind)),
+    };
+    path.iter().map(step).collect::<Vec<_>>().join("/")
 }

@@ -1,4 +1,4 @@
-//! Large and crowded tracks, for the bench and the stack.
+//! Large and crowded tracks, for the bench, the slowest and the stack.
 
 use maker::bundle::MARK;
 use maker::node::{self, Content, Header, Node, Step};
@@ -34,10 +34,10 @@ impl Shape {
         match self {
             Shape::FewLarge => ((bytes >> 18).clamp(2, 500), 48),
             Shape::ManySmall => {
-                // 8 bytes in the run and at least 6 of payload.
+                // 8 bytes in the run and about 6 of payload.
                 let samples = bytes / 14;
                 let fragments = samples.div_ceil(MAX_SAMPLES).clamp(2, MAX_FRAGMENTS);
-                (fragments, (samples / fragments).min(MAX_SAMPLES))
+                (fragments, (samples / fragments).clamp(1, MAX_SAMPLES))
             }
             Shape::ManyFragments => (MAX_FRAGMENTS, 1),
         }
@@ -150,7 +150,7 @@ pub fn crowded() -> Vec<Node> {
     boxes
 }
 
-/// A good track of 4,096 boxes with the empty ones in one container, before or behind its own.
+/// A good track of 4,096 boxes with the empty ones in one container of T, before or behind its own.
 pub fn crowded_in(path: &[Step], front: bool) -> Vec<Node> {
     let track = Track::example(2);
     let mut boxes = track.boxes(&mut Fill::Zeros);
@@ -231,8 +231,10 @@ impl State {
             }
             State::SpareByte => {
                 let mdat = boxes.iter_mut().rfind(|node| node.kind == *b"mdat");
-                if let Content::Zeros(len) = &mut mdat.expect("a data box").content {
-                    *len += 1;
+                match &mut mdat.expect("a data box").content {
+                    Content::Zeros(len) => *len += 1,
+                    Content::Bytes(bytes) => bytes.push(0),
+                    Content::Boxes(_) => panic!("a data box holds no boxes"),
                 }
             }
             State::StrayByte => boxes.push(Node::bare(vec![0])),

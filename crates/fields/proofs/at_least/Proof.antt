@@ -1,7 +1,4 @@
 -- `fields::at_least` meets its contract. Assumes nothing.
-use mathlib.Core.Path.{ap}
-use Prim.Native.Nat.{ℕ}
-use lib.Dec.{leb}
 use borrow.Author.Needs.{needs}
 use Rattle.rules.specs.Header.{atLeast}
 use Rattle.fields.proofs.at_least.Statement.{statement}

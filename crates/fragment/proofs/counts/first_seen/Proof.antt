@@ -1,8 +1,9 @@
 -- `fragment::counts::first_seen` meets its contract. Assumes nothing.
 use mathlib.Core.Path.{sym}
 use Rattle.rules.specs.Header.{someOf}
+use Rattle.boxes.proofs.Sights.{sees-none}
 use Rattle.fragment.proofs.First.{since-first, since-some}
-use Rattle.fragment.proofs.Counted.{sees-none, sees-some}
+use Rattle.fragment.proofs.Counted.{sees-some}
 use Rattle.fragment.proofs.counts.first_seen.Statement.{statement}
 use Rattle.fragment.proofs.counts.first_seen.Tie as tie
 

@@ -2,7 +2,7 @@
 use mathlib.Core.Path.{refl}
 use borrow.Author.Needs.{needs}
 use Rattle.rules.specs.Header.{oneOf}
-use Rattle.fragment.proofs.Counted.{sees-none, sees-one, sees-two}
+use Rattle.boxes.proofs.Sights.{sees-none, sees-one, sees-two}
 use Rattle.fragment.proofs.counts.only.Statement.{statement}
 use Rattle.fragment.proofs.counts.only.Tie as tie
 

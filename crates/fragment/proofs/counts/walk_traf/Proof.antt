@@ -7,8 +7,8 @@ use borrow.Author.Needs.{needs}
 use denote.Ref.{now}
 use Rattle.rules.specs.Kinds.{tfhd, tfdt, trun}
 use Rattle.boxes.proofs.Walks.{over, found}
+use Rattle.boxes.proofs.Sights.{named-hit, named-miss, Going, going-none, going-hit, going-miss, going-all}
 use Rattle.fragment.specs.Runs.{runsAt, Framed}
-use Rattle.fragment.proofs.Counted.{Going, going-none, going-hit, going-miss, going-all}
 use Rattle.fragment.proofs.Walk.{framed, runs-over, runs-next, runs-same, Surveyed, surveyed-none, surveyed-all, surveyed-same, surveyed-more}
 use Rattle.fragment.proofs.counts.walk_traf.Statement.{statement}
 use Rattle.fragment.proofs.counts.walk_traf.Tie as tie
@@ -68,9 +68,9 @@ loop-again c =
     let t = k .before .l .given .1 in
     let f = here k in (
       omega (arith, i .0),
-      ⊎-elim (λ x. going-hit _ _ e t (omega arith) (i .1) (x .0 .taken) (x .1 .ensures) (x .2)) (λ x. going-miss _ _ e t (omega arith) (i .1) (x .0 .left) (x .1)) (c .before .before .if1 .came),
-      ⊎-elim (λ x. going-hit _ _ e t (omega arith) (i .2) (x .0 .taken) (x .1 .ensures) (x .2)) (λ x. going-miss _ _ e t (omega arith) (i .2) (x .0 .left) (x .1)) (c .before .if2 .came),
-      ⊎-elim (λ x. going-hit _ _ e t (omega arith) (i .3) (x .0 .taken) (x .1 .ensures) (x .3)) (λ x. going-miss _ _ e t (omega arith) (i .3) (x .0 .left) (x .1)) (c .if3 .came),
+      ⊎-elim (λ x. going-hit _ _ e t (i .1) (named-hit (omega arith) (x .0 .taken)) (x .1 .ensures) (x .2)) (λ x. going-miss _ _ e t (i .1) (named-miss (omega arith) (x .0 .left)) (x .1)) (c .before .before .if1 .came),
+      ⊎-elim (λ x. going-hit _ _ e t (i .2) (named-hit (omega arith) (x .0 .taken)) (x .1 .ensures) (x .2)) (λ x. going-miss _ _ e t (i .2) (named-miss (omega arith) (x .0 .left)) (x .1)) (c .before .if2 .came),
+      ⊎-elim (λ x. going-hit _ _ e t (i .3) (named-hit (omega arith) (x .0 .taken)) (x .1 .ensures) (x .3)) (λ x. going-miss _ _ e t (i .3) (named-miss (omega arith) (x .0 .left)) (x .1)) (c .if3 .came),
       ⊎-elim (λ x. rw (x .4) (surveyed-more _ _ _ _ _ (i .4) _ _ (runs-next _ _ e t (x .0 .taken)) _ (x .2 .ensures))) (λ x. rw (x .2) (surveyed-same _ _ _ _ _ (i .4) _ (runs-same _ _ e t (x .0 .left)))) (c .if3 .came),
       ⊎-elim (λ x. rw (x .4) (omega (arith, i .5, x .2 .ensures .low, f .low, f .holds))) (λ x. rw (x .2) (omega (arith, i .5))) (c .if3 .came),
     )

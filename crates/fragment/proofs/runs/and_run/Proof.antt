@@ -18,7 +18,7 @@ returns-2 c =
     let g = k .before .run .given in
     let t = k .before .before .before in
     let a = t .before .before .args in
-    and-sized (a .base) (now (a .m)) (a .at) (a .r) (t .read-trun .ensures) (g .0 .0) (g .0 .1 .0) (g .0 .1 .1 .0) (g .1)
+    and-sized (a .base) (now (a .m)) (a .at) (a .r) (t .read-trun .ensures) (g .0 .0) (g .0 .1 .0) (g .1)
     (c .before .before .apart .result) (c .before .before .apart .ensures) (c .before .first-place2 .result) (c .before .first-place2 .ensures 16) (omega (arith, k .known-told .given))
 
 pub and-run-spec : {M : Type 1} → statement M
@@ -28,11 +28,11 @@ and-run-spec =
     (λ c. search needs)
     (λ c κs. search needs)
     (λ c. search needs)
-    (λ c κs. search needs)
     (λ c. search needs)
     (λ c κs. search needs)
-    (λ c κs. search needs)
-    (λ c. search needs)
-    (λ c. search needs)
     returns
+    (λ c κs. search needs)
+    (λ c κs. search needs)
+    (λ c. search needs)
+    (λ c. search needs)
     returns-2)

@@ -1,6 +1,7 @@
 -- `fragment::runs::sum_runs` meets its contract. Assumes nothing.
 use mathlib.Core.Path.{_≡_, ap, sym}
 use mathlib.Core.List.{_∷_}
+use mathlib.Core.Bool.{true}
 use mathlib.Core.Logic.{⊎-elim}
 use Prim.Native.Nat.{_+_, _-_, _≤_}
 use native.Mathlib.Omega.{arith}
@@ -8,8 +9,9 @@ use lib.ListN.{length}
 use borrow.Author.Needs.{needs}
 use denote.Ref.{now}
 use Rattle.boxes.proofs.Walks.{found}
+use Rattle.rules.specs.Fragment.{runSized}
 use Rattle.fragment.specs.Runs.{runsAt, Framed}
-use Rattle.fragment.proofs.Sized.{run-room, flags-are, count-is}
+use Rattle.fragment.proofs.Sized.{run-room, run-inside, flags-are, count-is}
 use Rattle.fragment.proofs.Walk.{framed, runs-over, runs-next, runs-same}
 use Rattle.fragment.proofs.Tile.{Walked, walked-none, walked-all, walked-same, next-sized, next-few, walked-more}
 use Rattle.fragment.proofs.runs.sum_runs.Statement.{statement}
@@ -48,11 +50,15 @@ next i =
     let a = k .before .before .before .before .before .before .before .args in
     runs-next (now (a .s)) (k .before .before .before .before .loop .at) (k .before .before .before .look .ensures .0) (k .before .l .given .1) (i .if1 .taken)
 
--- and has room for its flags and its samples
-room : (i : tie.Then1 Inv-loop μ-loop) → i .before .before .l .given .0 .0 + 8 ≤ i .before .before .l .given .0 .1 .0
-room i =
+-- sized by its flags
+sized : (i : tie.Then1 Inv-loop μ-loop) → runSized (now (i .before .before .before .before .before .before .before .before .args .m)) (i .before .before .before .before .before .loop .at) ≡ true
+sized i =
     let l = i .before .before .before .before .before .loop in
-    run-room _ _ _ _ (here (i .before)) (next-sized _ _ _ _ _ _ _ _ _ _ _ _ (l .inv .0) (l .at) _ (next i))
+    next-sized _ _ _ _ _ _ _ _ _ _ _ _ (l .inv .0) (l .at) _ (next i)
+
+-- with room for them and its samples
+room : (i : tie.Then1 Inv-loop μ-loop) → i .before .before .l .given .0 .0 + 8 ≤ i .before .before .l .given .0 .1 .0
+room i = run-room _ _ _ _ (here (i .before)) (sized i)
 
 -- which are few
 few : (n : tie.After-near4 Inv-loop μ-loop) → n .before .before .before .before .before .before .before .loop .samples + n .near4 .result ≤ 65536
@@ -112,13 +118,11 @@ add-fields c =
 sums-of-requires : tie.Need-sums-of-requires Inv-loop μ-loop
 sums-of-requires c κs =
     let n = c .before .before .before .before .before in
-    let i = n .before .before in (
-      record {
-        place = omega (arith, i .before .before .before .before .before .before .before .before .pre .0, here (i .before), c .before .run-head .ensures .1);
-        apart = c .stride .ensures .1;
-        count = omega (arith, few n);
-      },
+    let i = n .before .before in
+    let b = here (i .before) in (
+      omega (arith, few n),
       c .stride .ensures .0,
+      run-inside _ _ _ _ b (sized i) _ _ _ _ (flags-are _ _ _ _ b _ (n .before .near3 .ensures .0)) (count-is _ _ _ _ b _ (n .near4 .ensures)) (c .stride .ensures .0) (c .before .run-head .ensures .0),
     )
 
 add-ticks : tie.Need-add-ticks Inv-loop μ-loop

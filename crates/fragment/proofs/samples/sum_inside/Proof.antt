@@ -6,7 +6,7 @@ use lib.ListN.{length}
 use borrow.Author.Needs.{needs}
 use denote.Ref.{now}
 use Rattle.fragment.specs.Samples.{every, Summed}
-use Rattle.fragment.proofs.Sums.{step-inside, step-none, step-on, step-low, summed-none, summed-at, summed-end}
+use Rattle.fragment.proofs.Sums.{step-inside, step-none, step-on, summed-none, summed-at, summed-end}
 use Rattle.fragment.proofs.samples.sum_inside.Statement.{statement}
 use Rattle.fragment.proofs.samples.sum_inside.Tie as tie
 
@@ -24,12 +24,13 @@ loop-holds c =
 near4-requires : tie.Need-near4-requires Inv-loop μ-loop
 near4-requires c κs =
     let a = c .before .before .before .args in
-    omega (arith, step-inside (a .from) (a .step) (a .n) (c .before .loop .i) (length (now (a .m))) (c .loop-test .taken) (c .before .before .before .pre .1 .1))
+    omega (arith, step-inside (a .from) (a .step) (a .n) (c .before .loop .i) (length (now (a .m))) (c .loop-test .taken) (c .before .before .before .pre .2))
 
 add-p : tie.Need-add-p Inv-loop μ-loop
 add-p c =
     let s = c .before .before .before .before in
-    omega (arith, s .pre .0, step-low (s .pre .0) (c .before .before .loop .i) (c .before .before .loop .inv .0))
+    let a = s .args in
+    omega (arith, step-inside (a .from) (a .step) (a .n) (c .before .before .loop .i) (length (now (a .m))) (c .before .loop-test .taken) (s .pre .2))
 
 loop-again : tie.Need-loop-again Inv-loop μ-loop
 loop-again c =

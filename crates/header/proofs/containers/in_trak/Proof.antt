@@ -12,14 +12,17 @@ returns c = stop _ (c .before .before .one .ensures) (c .enum-told2 .given .1)
 returns-2 : tie.Need-returns-2
 unfolding trakBy
 returns-2 c =
-    go (c .before .before .before .before .before .one .ensures) (c .before .before .before .enum-told .given .1)
+    let p = c .before .before .before .before in
+    go (p .before .before .one .ensures) (p .enum-told .given .1)
     (stop _ (c .before .before .at-most-one .ensures) (c .enum-told4 .given .1))
 
 returns-3 : tie.Need-returns-3
 unfolding trakBy
 returns-3 c =
-    go (c .before .before .before .before .before .before .one .ensures) (c .before .before .before .before .enum-told .given .1)
-    (go (c .before .before .before .at-most-one .ensures) (c .before .enum-told3 .given .1)
+    let q = c .before .before in
+    let p = q .before .before .before .before in
+    go (p .before .before .one .ensures) (p .enum-told .given .1)
+    (go (q .before .before .at-most-one .ensures) (q .enum-told3 .given .1)
     (c .one2 .ensures))
 
 pub in-trak-spec : {M : Type 1} → statement M

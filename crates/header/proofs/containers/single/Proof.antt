@@ -6,7 +6,12 @@ use Rattle.header.proofs.containers.single.Statement.{statement}
 use Rattle.header.proofs.containers.single.Tie as tie
 
 returns : tie.Need-returns
-returns c = c .one .ensures ∙ one-is (c .before .walk .ensures .0) _ (c .before .walk .ensures .0 .a)
+returns c = let g = c .before .before .walk .ensures .0 in c .one .ensures ∙ one-is g _ (g .a)
 
 pub single-spec : {M : Type 1} → statement M
-single-spec = tie.close (tie.spec (λ c κs. search needs) (λ c κs. search needs) returns)
+single-spec =
+    tie.close
+    (tie.spec
+    (λ c κs. search needs)
+    (λ c κs. search needs)
+    returns)

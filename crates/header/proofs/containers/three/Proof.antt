@@ -12,14 +12,17 @@ returns c = stop _ (c .before .before .one .ensures) (c .enum-told2 .given .1)
 returns-2 : tie.Need-returns-2
 unfolding threeBy
 returns-2 c =
-    go (c .before .before .before .before .before .one .ensures) (c .before .before .before .enum-told .given .1)
+    let p = c .before .before .before .before in
+    go (p .before .before .one .ensures) (p .enum-told .given .1)
     (stop _ (c .before .before .one2 .ensures) (c .enum-told4 .given .1))
 
 returns-3 : tie.Need-returns-3
 unfolding threeBy
 returns-3 c =
-    go (c .before .before .before .before .before .before .one .ensures) (c .before .before .before .before .enum-told .given .1)
-    (go (c .before .before .before .one2 .ensures) (c .before .enum-told3 .given .1)
+    let q = c .before .before in
+    let p = q .before .before .before .before in
+    go (p .before .before .one .ensures) (p .enum-told .given .1)
+    (go (q .before .before .one2 .ensures) (q .enum-told3 .given .1)
     (c .one3 .ensures))
 
 pub three-spec : {M : Type 1} → statement M

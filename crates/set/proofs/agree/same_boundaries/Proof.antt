@@ -4,7 +4,6 @@ use mathlib.Core.Path.{sym, _∙_}
 use native.Mathlib.Omega.{arith}
 use lib.ListN.{length}
 use borrow.Author.Needs.{needs}
-use denote.Ref.{now}
 use Rattle.track.proofs.Table.{starts}
 use Rattle.set.proofs.Beside.{Going, going-begins, going-ends, going-short, going-on, going-differs}
 use Rattle.set.proofs.agree.same_boundaries.Statement.{statement}

@@ -2,7 +2,6 @@
 use Prim.Native.Nat.{_-_}
 use native.Mathlib.Omega.{arith}
 use borrow.Author.Needs.{needs}
-use denote.Ref.{now}
 use Rattle.rules.specs.Limits.{recordLimit}
 use Rattle.set.proofs.Records.{Going, going-begins, going-on, going-wrong, going-nothing, going-more, going-full, going-ended}
 use Rattle.set.proofs.bundle.framed.Statement.{statement}

@@ -1,5 +1,4 @@
 -- `track::order::ordered` meets its contract. Assumes nothing.
-use borrow.Author.Needs.{needs}
 use borrow.Author.Tests.{ne-eqb}
 use Rattle.rules.specs.Order.{ordered}
 use Rattle.track.proofs.order.ordered.Statement.{statement}
