@@ -13,6 +13,7 @@ use Rattle.rules.specs.declared.Rule.the-variants.{Holds, Breaks}
 use Rattle.rules.specs.declared.Seen.{Seen}
 use Rattle.boxes.specs.Sights.{Sighted}
 use Rattle.fragment.specs.Runs.{runsAt, Surveys}
+use Rattle.fragment.specs.declared.counts.Pair.{Pair}
 use Rattle.fragment.specs.declared.counts.Trio.{Trio}
 use Rattle.fragment.specs.declared.counts.Traf.{Traf}
 use Rattle.fragment.specs.declared.counts.Count.{Count}
@@ -25,7 +26,11 @@ use Rattle.fragment.specs.declared.counts.Moof.{Moof}
 use Rattle.fragment.specs.declared.counts.Found.{Found}
 use Rattle.fragment.specs.declared.counts.Found.the-variants.{All, Refused as allRefused}
 
--- what is seen of three wanted types
+-- what is seen of two wanted types, and of three
+pub record SawTwo (s : List ℕ) (from v w : ℕ) (t : Pair) : Type 0 where
+  pub a : Sighted s from v (t .a)
+  pub b : Sighted s from w (t .b)
+
 pub record SawThree (s : List ℕ) (from v w x : ℕ) (t : Trio) : Type 0 where
   pub a : Sighted s from v (t .a)
   pub b : Sighted s from w (t .b)

@@ -5,10 +5,9 @@ ghost use lib.ListN.{length, take};
 ghost use Rattle.rules.specs.Header.{oneOf, someOf};
 ghost use Rattle.rules.specs.Boxes.{boxes, seen, firstOf};
 ghost use Rattle.boxes.specs.Sights.{seenOf};
-ghost use Rattle.fragment.specs.Counts.{saysCount, saysPlace, saysInMoof, saysInTraf, saysFound, Inside, SawTraf};
+ghost use Rattle.fragment.specs.Counts.{saysCount, saysPlace, saysInMoof, saysInTraf, saysFound, Inside, SawTwo, SawTraf};
 use crate::runs;
 use crate::runs::Runs;
-use boxes::NONE;
 use boxes::Next;
 use boxes::Sight;
 use boxes::kinds::MFHD;
@@ -59,6 +58,12 @@ pub enum Found {
     Refused(u64),
 }
 
+// What is seen of two wanted types.
+pub struct Pair {
+    pub a: Sight,
+    pub b: Sight,
+}
+
 // What is seen of three wanted types.
 pub struct Trio {
     pub a: Sight,
@@ -70,6 +75,35 @@ pub struct Trio {
 pub struct Traf {
     pub seen: Trio,
     pub runs: Runs,
+}
+
+// What is seen of two wanted types among the sibling boxes of a slice from a place on.
+fn both_of(s: &[u8], from: usize, v: u32, w: u32) -> Pair
+    requires { ⌜ (0 < from) × (0 < v) × (0 < w) ⌝ }
+    ensures { λ r. ⌜ SawTwo (now (s .entry)) from v w r ⌝ }
+{
+    let mut at = from;
+    let mut a = Sight {
+        first: 0,
+        second: 0,
+    };
+    let mut b = Sight {
+        first: 0,
+        second: 0,
+    };
+    loop {
+        let l = boxes::look(s, at);
+        let Look::Header { size, kind, .. } = l else {
+            return Pair { a, b };
+        };
+        if kind == v {
+            a = boxes::again(a, at);
+        }
+        if kind == w {
+            b = boxes::again(b, at);
+        }
+        at += size;
+    }
 }
 
 // What is seen of the boxes in a front of the `moof` from a place on, which are those of `traf`, and what its runs say by themselves.
@@ -159,7 +193,7 @@ fn in_moof(m: &[u8], base: u64) -> InMoof
 {
     let o = fields::inner(m, 0);
     let end = o.end;
-    let seen = boxes::tally(&m[..end], o.from, MFHD, TRAF, NONE, NONE, NONE);
+    let seen = both_of(&m[..end], o.from, MFHD, TRAF);
     let mfhds = seen.a;
     let trafs = seen.b;
     let x = only(mfhds, base, base);

@@ -11,14 +11,14 @@ use Rattle.fragment.proofs.Counted.{Sees, sees, one-at, one-not}
 use Rattle.fragment.proofs.counts.in_moof.Statement.{statement}
 use Rattle.fragment.proofs.counts.in_moof.Tie as tie
 
-mfhds : (t : tie.After-tally) → Sees (t .before .before .before .before .args .base) (now (t .before .before .before .before .args .m)) 0 mfhd (t .before .before .before .before .args .base) (t .tally .result .a)
-mfhds t = let a = t .before .before .before .before .args in sees (a .base) (now (a .m)) 0 mfhd (a .base) (t .before .before .inner .result) (t .tally .result .a) (t .before .before .inner .ensures) (t .tally .ensures .a) (omega arith)
+mfhds : (t : tie.After-both-of) → Sees (t .before .before .before .before .args .base) (now (t .before .before .before .before .args .m)) 0 mfhd (t .before .before .before .before .args .base) (t .both-of .result .a)
+mfhds t = let a = t .before .before .before .before .args in sees (a .base) (now (a .m)) 0 mfhd (a .base) (t .before .before .inner .result) (t .both-of .result .a) (t .before .before .inner .ensures) (t .both-of .ensures .a) (omega arith)
 
-trafs : (t : tie.After-tally) → Sees (t .before .before .before .before .args .base) (now (t .before .before .before .before .args .m)) 0 traf (t .before .before .before .before .args .base) (t .tally .result .b)
-trafs t = let a = t .before .before .before .before .args in sees (a .base) (now (a .m)) 0 traf (a .base) (t .before .before .inner .result) (t .tally .result .b) (t .before .before .inner .ensures) (t .tally .ensures .b) (omega arith)
+trafs : (t : tie.After-both-of) → Sees (t .before .before .before .before .args .base) (now (t .before .before .before .before .args .m)) 0 traf (t .before .before .before .before .args .base) (t .both-of .result .b)
+trafs t = let a = t .before .before .before .before .args in sees (a .base) (now (a .m)) 0 traf (a .base) (t .before .before .inner .result) (t .both-of .result .b) (t .before .before .inner .ensures) (t .both-of .ensures .b) (omega arith)
 
-slice-aggregate-tally : tie.Need-slice-aggregate-tally
-slice-aggregate-tally c = let h = c .before .inner .ensures .end in simp length-take (omega arith)
+slice-aggregate-both-of : tie.Need-slice-aggregate-both-of
+slice-aggregate-both-of c = let h = c .before .inner .ensures .end in simp length-take (omega arith)
 
 only-requires : tie.Need-only-requires
 only-requires c κs = omega (arith, c .before .before .before .before .before .before .pre, mfhds (c .before .before) .second)
@@ -58,7 +58,7 @@ in-moof-spec =
     tie.close
     (tie.spec
     (λ c κs. search needs)
-    slice-aggregate-tally
+    slice-aggregate-both-of
     (λ c κs. search needs)
     only-requires
     (λ c. search needs)
