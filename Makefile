@@ -6,6 +6,7 @@
 #   trials     the proved code against the Rust reference, CASES a job    (cargo, gcc)
 #   stack      every exported function on its worst inputs in 64 KiB      (cargo, gcc; x86-64)
 #   bench      time beside the Rust reference                             (cargo, gcc; x86-64)
+#   slowest    the slowest of CASES drawn inputs a job, from 10 KiB on    (cargo, gcc; x86-64)
 #   fuzz       the exported functions against the reference, SECONDS long (clang-14, cargo; see rust/fuzz)
 #   c-example  a C program against the header and the archive             (a C compiler for x86-64)
 #   samples    the stored tracks of real encoders, good and damaged       (python3)
@@ -28,7 +29,7 @@ LINKED := yes
 NEEDED := $(ARCHIVE)
 endif
 
-.PHONY: check test ground fmt trials stack bench fuzz c-example samples vectors
+.PHONY: check test ground fmt trials stack bench slowest fuzz c-example samples vectors
 
 check:
 	rt check
@@ -53,11 +54,14 @@ trials: $(NEEDED)
 
 stack bench: $(NEEDED)
 	$(TRIALS) $@
+
+slowest: $(NEEDED)
+	$(TRIALS) slowest --seed $(SEED) --cases $(CASES)
 else
 trials:
 	$(TRIALS) pipe --seed $(SEED) --cases $(CASES) -- tools/run vectors
 
-stack bench:
+stack bench slowest:
 	@echo "make $@ calls the archive, which is for x86-64, and this machine is $(MACHINE)." >&2
 	@echo "With an archive for this machine: make $@ FLANGEMINT_LIB_DIR=/its/folder" >&2
 	@false

@@ -1,0 +1,14 @@
+-- `header::bodies::versioned` meets its contract. Assumes nothing.
+use mathlib.Core.Path.{sym, _∙_}
+use borrow.Author.Needs.{needs}
+use Rattle.header.proofs.bodies.versioned.Statement.{statement}
+use Rattle.header.proofs.bodies.versioned.Tie as tie
+
+returns : tie.Need-returns
+returns c = sym (c .before .versioned .ensures) ∙ c .if1 .taken
+
+returns-2 : tie.Need-returns-2
+returns-2 c = sym (c .before .versioned .ensures) ∙ c .if1 .left
+
+pub versioned-spec : {M : Type 1} → statement M
+versioned-spec = tie.close (tie.spec (λ c κs. search needs) returns returns-2)
