@@ -1,7 +1,8 @@
 -- Laws of a function that goes through rules in their order: past a rule that holds, and at one that breaks.
 use mathlib.Core.Path.{_≡_, sym, _∙_, ap}
-use mathlib.Core.Bool.{Bool, true, false}
+use mathlib.Core.Bool.{Bool, true, false, not}
 use Prim.Native.Nat.{ℕ}
+use borrow.Author.Tests.{not-true, not-false}
 use Rattle.rules.specs.Rules.{_then_, must}
 use Rattle.rules.specs.declared.Rule.{Rule}
 use Rattle.rules.specs.declared.Rule.the-variants.{Holds, Breaks}
@@ -23,9 +24,9 @@ holds e h = sym e ∙ h
 pub tested : {r : Rule} {a b : Bool} (n p : ℕ) → r ≡ must a n p → a ≡ b → r ≡ must b n p
 tested n p e h = e ∙ ap (λ (t : Bool). must t n p) h
 
--- past a test that holds, and at one that doesn't
-pub pass : {test : Bool} {z q : Rule} (n p : ℕ) → test ≡ true → z ≡ q → z ≡ (must test n p then q)
-pass {q = q} n p e k = k ∙ sym (then-holds q (must-true n p e))
+-- past a test that holds, and at one that doesn't; the code asks for its opposite
+pub pass : {a b : Bool} {z q : Rule} (n p : ℕ) → a ≡ b → not a ≡ false → z ≡ q → z ≡ (must b n p then q)
+pass {a = a} n p e h k = go (ap (λ (t : Bool). must t n p) e) (must-true n p (not-false a h)) k
 
-pub fail : {test : Bool} {r : Rule} {n p : ℕ} (q : Rule) → r ≡ Breaks n 0 p → test ≡ false → r ≡ (must test n p then q)
-fail {n = n} {p = p} q k e = k ∙ sym (then-breaks q (must-false n p e))
+pub fail : {a b : Bool} {r : Rule} {n p : ℕ} (q : Rule) → r ≡ Breaks n 0 p → a ≡ b → not a ≡ true → r ≡ (must b n p then q)
+fail {a = a} {n = n} {p = p} q k e h = k ∙ sym (then-breaks q (must-false n p (sym e ∙ not-true a h)))

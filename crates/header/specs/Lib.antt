@@ -1,4 +1,3 @@
-pub mod Bodies
 pub mod Counts
 pub mod Groups
 pub mod Heads
