@@ -3,18 +3,14 @@ use mathlib.Core.Path.{_≡_, refl}
 use mathlib.Core.List.{List, [], _∷_, _++_}
 use Prim.Native.Nat.{ℕ}
 use Rattle.rules.specs.Kinds.{mdat, tfdt, trun, vide, soun, vmhd, letters}
-use Rattle.rules.specs.Bytes.{in4, zeros, boxed, headerWith, header, run, moofOf, fragment, trackT}
+use Rattle.rules.specs.Bytes.{in4, zeros, boxed, headerWith, header, run, moofOf, fragment, trackT, single, shifted}
 use Rattle.rules.specs.Computed.{computed}
-use Rattle.rules.specs.Track.{ruling, fragmentCount, timescale}
+use Rattle.rules.specs.Track.{ruling}
 use Rattle.rules.specs.Bundle.{tracks}
-use Rattle.rules.specs.Set.{handler, setRuling, setOutcome}
+use Rattle.rules.specs.Set.{setRuling, setOutcome}
 use Rattle.rules.specs.Player.{stuck, passed, play, rules1to18}
 use Rattle.rules.specs.declared.Rule.the-variants.{Holds, Breaks}
 use lib.ListN.{length, take}
-
--- a track of one fragment from a start, with its data offset and the payload's length
-unfoldable pub single : ℕ → ℕ → ℕ → List ℕ
-single start offset payload = header ++ fragment start offset payload
 
 -- T plays through: the first start, then the clock after each fragment
 pub plays-T : play (trackT ∷ []) (0 ∷ 0 ∷ []) ≡ passed (0 ∷ 180000 ∷ 360000 ∷ [])
@@ -159,52 +155,10 @@ pub stuck-14-ahead : play (twoStarts ∷ []) (0 ∷ []) ≡ stuck
 unfolding computed twoStarts
 stuck-14-ahead = refl
 
--- sets: T beside itself is accepted; beside a shorter track refused under 27; beside itself a tick later under 28, though the durations agree
-unfoldable pub shifted : List ℕ
-shifted = header ++ fragment 1 108 30 ++ fragment 180001 108 30
-
+-- T beside itself is an accepted set
 pub set-accepted : setRuling (trackT ∷ trackT ∷ []) ≡ Holds
 unfolding computed
 set-accepted = refl
-
-pub set-27 : setRuling (trackT ∷ single 0 108 30 ∷ []) ≡ Breaks 27 1 630
-unfolding computed single
-set-27 = refl
-
-pub set-28 : setRuling (trackT ∷ shifted ∷ []) ≡ Breaks 28 1 492
-unfolding computed shifted
-set-28 = refl
-
--- each of these tracks is accepted by itself
-pub T-accepted : ruling trackT ≡ Holds
-unfolding computed
-T-accepted = refl
-
-pub T-fragments : fragmentCount trackT ≡ 2
-unfolding computed
-T-fragments = refl
-
-pub single-accepted : ruling (single 0 108 30) ≡ Holds
-unfolding computed single
-single-accepted = refl
-
-pub shifted-accepted : ruling shifted ≡ Holds
-unfolding computed shifted
-shifted-accepted = refl
-
--- and has T's handler and timescale
-pub single-alike : (handler (single 0 108 30) ≡ handler trackT) × (timescale (single 0 108 30) ≡ timescale trackT)
-unfolding computed single
-single-alike = (refl, refl)
-
-pub shifted-alike : (handler shifted ≡ handler trackT) × (timescale shifted ≡ timescale trackT)
-unfolding computed shifted
-shifted-alike = (refl, refl)
-
--- T by itself is a set
-pub set-of-T : setRuling (trackT ∷ []) ≡ Holds
-unfolding computed
-set-of-T = refl
 
 -- a non-sync first sample is refused under 21
 pub non-sync-refused : ruling (flagged 0x1010000) ≡ Breaks 21 0 556
@@ -227,7 +181,7 @@ pub twice-tracks : length (tracks twiceT) ≡ 2
 unfolding computed twiceT
 twice-tracks = refl
 
--- the plans that tell these sets apart, computed: under 27 staying on T runs and staying on the other is stuck; under 28 both run
+-- the plans that tell the two refused sets of `Sets` apart: under 27 staying on T runs and staying on the other is stuck; under 28 both run
 pub plans-27 : play (trackT ∷ single 0 108 30 ∷ []) (1 ∷ 1 ∷ []) ≡ stuck
 unfolding computed single
 plans-27 = refl

@@ -1,1 +1,1 @@
-// No code: the player computed on small tracks, and players that fail. See specs/.
+// No code: the player computed on small tracks. See specs/.

@@ -15,10 +15,11 @@ use Rattle.rules.specs.Boxes.{headOf, sizeOf, whole}
 use Rattle.rules.specs.Fragment.{startOf, tfdtIn, firstRun, syncIn, rule19, rule20, rule21, rule22, timing}
 use Rattle.rules.specs.Track.{rule1, rulesOfHeader, ruling, rules14to22, headerOf, fragments, fragmentCount, mdatAt, shapeAt, timingAt, startAt, endAt, ticksAfter, ticks, boundaries}
 use Rattle.rules.specs.Player.{Piece, fedAt, pieceAt, shapes, rules1to18}
+use Rattle.rules.specs.Plans.{All}
 use Rattle.rules.specs.declared.Rule.{Rule}
 use Rattle.rules.specs.declared.Rule.the-variants.{Holds}
 use Rattle.rules.specs.declared.Header.{Header}
-use Rattle.rules.proofs.Laws.{All, or-second}
+use Rattle.rules.proofs.Laws.{or-second}
 use Rattle.rules.proofs.Then.{then-holds, then-first, then-second, must-holds}
 use Rattle.rules.proofs.Walk.{DataBox, data-boxes, some-fragment}
 use Rattle.rules.proofs.Tiling.{fed-at}

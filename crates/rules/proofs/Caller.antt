@@ -14,14 +14,14 @@ use Rattle.rules.specs.Track.{rule1, ruling, fragmentCount, timescale, b
 use Rattle.rules.specs.Bundle.{Records, none, wrong, track, records, rule24From, rule24, tracksOf, tracks}
 use Rattle.rules.specs.Set.{rulings, agree, track0, setRuling, bundleRuling, setOutcome}
 use Rattle.rules.specs.Player.{Played, passed, play}
+use Rattle.rules.specs.Plans.{All, Plan, ToldApart, Singly}
 use Rattle.rules.specs.declared.Rule.{Rule}
 use Rattle.rules.specs.declared.Rule.the-variants.{Holds, Breaks}
-use Rattle.rules.proofs.Laws.{All}
 use Rattle.rules.proofs.Then.{broken, then-first, then-second}
 use Rattle.rules.proofs.Boundaries.{a-fragment, boundaries-length}
 use Rattle.rules.proofs.Refusals.{refusals-1-to-28, refused-as-set}
-use Rattle.rules.proofs.FirstHalf.{Plan, each-ruling, accepted-set, first-half-bundle}
-use Rattle.rules.proofs.SecondHalf.{ToldApart, stays, second-half}
+use Rattle.rules.proofs.FirstHalf.{each-ruling, accepted-set, first-half-bundle}
+use Rattle.rules.proofs.SecondHalf.{stays, names-a-track, second-half}
 
 -- what an outcome of the set job with at least one fragment counted says: the bundle is accepted, the count is track 0's number
 -- of fragments, and the table begins with its boundaries
@@ -96,7 +96,7 @@ caller b t o e plan h l a =
     let u : take (length plan + 1) (boundaries s₀) ≡ take (length plan + 1) (boundaries s₀ ++ drop (length (boundaries s₀)) t) =
     sym (take-append-le (length plan + 1) (boundaries s₀) (drop (length (boundaries s₀)) t) (omega (arith, l, n, w))) in
     let v : o .table ≡ boundaries s₀ ++ drop (length (boundaries s₀)) t = ap (λ (q : Outcome). q .table) e ∙ c .3 in
-    first-half-bundle b plan (c .0) (h, omega (arith, l, n), a)
+    first-half-bundle b plan (c .0) ((h, a), omega (arith, l, n))
     ∙ ap {B = Played} passed (u ∙ ap (take (length plan + 1)) (sym v))
 
 -- the verdict was 0: then there is a track and a fragment, the table has room for one number more than there are fragments, and every
@@ -128,7 +128,7 @@ pub caller-plan : (b t : List ℕ) (o : Outcome) → o ≡ setOutcome b t → (p
 caller-plan b t o e plan h l a =
     let m : o .verdict .count ≡ setOutcome b t .verdict .count = ap (λ (q : Outcome). q .verdict .count) e in
     let c = counted b t (omega (arith, h, l, m)) in
-    (h, omega (arith, l, m, c .2), a)
+    ((h, a), omega (arith, l, m, c .2))
 
 -- an outcome with a number beyond 23 is a refusal of the bundle, with the track that it names
 refusal-seen : (b t : List ℕ) → 23 < setOutcome b t .verdict .number
@@ -151,13 +151,16 @@ refusal-seen b t h = go (bundleRuling b) refl h
     go Holds e l = absurd (room (ltb (length t) (length (boundaries s₀))) l)
     go (Breaks n k p) e l = (p, e)
 
--- the verdict was 27 or 28: the two plans that stay on track 0 and on the track that the verdict names tell the set apart
+-- the verdict was 27 or 28: it names a track of the bundle, and the two plans that stay on track 0 and on that one tell the set apart
 pub caller-27-or-28 : (b t : List ℕ) (o : Outcome) → o ≡ setOutcome b t → (o .verdict .number ≡ 27) ⊎ (o .verdict .number ≡ 28)
-    → ToldApart play (tracks b) (stays (tracks b) (o .verdict .track) 0) (stays (tracks b) (o .verdict .track) (o .verdict .track))
+    → (o .verdict .track < length (tracks b))
+    × ToldApart play (tracks b) (stays (tracks b) (o .verdict .track) 0) (stays (tracks b) (o .verdict .track) (o .verdict .track))
 caller-27-or-28 b t o e w = subst Apart (sym e) (go (subst Number e w))
   where
     Apart : Outcome → Type 0
-    Apart q = ToldApart play (tracks b) (stays (tracks b) (q .verdict .track) 0) (stays (tracks b) (q .verdict .track) (q .verdict .track))
+    Apart q =
+        (q .verdict .track < length (tracks b))
+        × ToldApart play (tracks b) (stays (tracks b) (q .verdict .track) 0) (stays (tracks b) (q .verdict .track) (q .verdict .track))
 
     Number : Outcome → Type 0
     Number q = (q .verdict .number ≡ 27) ⊎ (q .verdict .number ≡ 28)
@@ -166,12 +169,12 @@ caller-27-or-28 b t o e w = subst Apart (sym e) (go (subst Number e w))
     k = setOutcome b t .verdict .track
 
     at : (n : ℕ) → 24 < n → setOutcome b t .verdict .number ≡ n
-        → (p : ℕ) × All (λ s. ruling s ≡ Holds) (tracks b) × (setRuling (tracks b) ≡ Breaks n k p)
+        → (p : ℕ) × Singly (tracks b) × (setRuling (tracks b) ≡ Breaks n k p)
     at n l q =
         let y = refusal-seen b t (omega (arith, l, q)) in
         let r = refused-as-set b n k (y .0) l (y .1 ∙ ap (λ (i : ℕ). Breaks i k (y .0)) q) in
         (y .0, each-ruling 0 (tracks b) (r .0), r .1)
 
     go : Number (setOutcome b t) → Apart (setOutcome b t)
-    go (inl q) = let y = at 27 (omega arith) q in second-half (tracks b) k (y .0) (y .1) (inl (y .2))
-    go (inr q) = let y = at 28 (omega arith) q in second-half (tracks b) k (y .0) (y .1) (inr (y .2))
+    go (inl q) = let y = at 27 (omega arith) q in (names-a-track (tracks b) 27 k (y .0) (y .1) (y .2), second-half (tracks b) k (y .0) (y .1) (inl (y .2)))
+    go (inr q) = let y = at 28 (omega arith) q in (names-a-track (tracks b) 28 k (y .0) (y .1) (y .2), second-half (tracks b) k (y .0) (y .1) (inr (y .2)))

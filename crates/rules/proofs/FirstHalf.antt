@@ -11,15 +11,12 @@ use Rattle.rules.specs.Track.{rule1, ruling, fragments, fragmentCount, t
 use Rattle.rules.specs.Bundle.{rule24, tracks}
 use Rattle.rules.specs.Set.{rule25, rule26, rule27, firstOr, rule28From, rule28, agrees, rulings, agree, track0, setRuling, bundleRuling}
 use Rattle.rules.specs.Player.{Played, stuck, passed, play}
+use Rattle.rules.specs.Plans.{All, Plan, Singly, HasFirstHalf}
 use Rattle.rules.specs.declared.Rule.the-variants.{Holds}
-use Rattle.rules.proofs.Laws.{All, all-at, all-map, below}
+use Rattle.rules.proofs.Laws.{all-at, all-map, below}
 use Rattle.rules.proofs.Then.{then-first, then-second, must-holds, of-track}
 use Rattle.rules.proofs.Boundaries.{boundaries-length, as-many}
 use Rattle.rules.proofs.Plays.{Chooses, alike-plays}
-
--- a plan: one to all fragments, and each choice names a track of the set
-abbrev pub Plan : List (List ℕ) → List ℕ → Type 0
-Plan ss plan = (1 ≤ length plan) × (length plan ≤ fragmentCount (track0 ss)) × All (λ i. i < length ss) plan
 
 -- an accepted track that is like another: the same timescale, as many fragments, the same boundaries
 abbrev pub Alike : List ℕ → List ℕ → Type 0
@@ -53,7 +50,7 @@ agrees-alike s₀ s r h =
     )
 
 -- tracks accepted one by one
-pub each-ruling : (k : ℕ) (ss : List (List ℕ)) → rulings k ss ≡ Holds → All (λ s. ruling s ≡ Holds) ss
+pub each-ruling : (k : ℕ) (ss : List (List ℕ)) → rulings k ss ≡ Holds → Singly ss
 unfolding rulings
 each-ruling k [] h = tt
 each-ruling k (s ∷ ss) h = (
@@ -62,7 +59,7 @@ each-ruling k (s ∷ ss) h = (
 )
 
 -- tracks accepted, each beside track 0
-each-agrees : (s₀ : List ℕ) (k : ℕ) (ss : List (List ℕ)) → All (λ s. ruling s ≡ Holds) ss → agree s₀ k ss ≡ Holds → All (Alike s₀) ss
+each-agrees : (s₀ : List ℕ) (k : ℕ) (ss : List (List ℕ)) → Singly ss → agree s₀ k ss ≡ Holds → All (Alike s₀) ss
 unfolding agree
 each-agrees s₀ k [] r h = tt
 each-agrees s₀ k (s ∷ ss) r h = (
@@ -87,12 +84,11 @@ chooses ss h i l =
     (n .0, n .1, a .0, a .1, a .3)
 
 -- the first half: every plan of an accepted set plays, and passes the first (length of plan + 1) boundaries of track 0
-pub first-half : (ss : List (List ℕ)) (plan : List ℕ) → setRuling ss ≡ Holds → Plan ss plan
-    → play ss plan ≡ passed (take (length plan + 1) (boundaries (track0 ss)))
+pub first-half : HasFirstHalf play
 first-half ss plan h p =
-    alike-plays ss (timescale (track0 ss)) (boundaries (track0 ss)) plan (p .0)
-    (omega (arith, p .0, p .1, boundaries-length (track0 ss) (omega (arith, p .0, p .1))))
-    (all-map (λ i. i < length ss) (Chooses ss (timescale (track0 ss)) (boundaries (track0 ss))) plan (chooses ss h) (p .2))
+    alike-plays ss (timescale (track0 ss)) (boundaries (track0 ss)) plan (p .0 .0)
+    (omega (arith, p .0 .0, p .1, boundaries-length (track0 ss) (omega (arith, p .0 .0, p .1))))
+    (all-map (λ i. i < length ss) (Chooses ss (timescale (track0 ss)) (boundaries (track0 ss))) plan (chooses ss h) (p .0 .1))
 
 -- a bundle that is accepted holds an accepted set
 pub accepted-set : (b : List ℕ) → bundleRuling b ≡ Holds → setRuling (tracks b) ≡ Holds

@@ -7,6 +7,7 @@ use Prim.Native.Nat.{ℕ, zero, suc, _≤_, _<_}
 use native.Mathlib.Nat.{not-suc-le-zero, le-of-suc-le-suc}
 use native.Mathlib.Omega.{arith}
 use lib.ListN.{length, getElem?, drop}
+use Rattle.rules.specs.Plans.{All}
 
 -- tests joined
 pub and-first : (a b : Bool) → (a && b) ≡ true → a ≡ true
@@ -43,11 +44,6 @@ module _ (a b c d e : Bool) where
 pub not-on : (a : Bool) → not a ≡ true → a ≡ false
 not-on true h = absurd (false≢true h)
 not-on false h = refl
-
--- a property of every element
-abbrev pub All : {A : Type 0} → (A → Type 0) → List A → Type 0
-All P [] = Unit {0}
-All P (x ∷ xs) = P x × All P xs
 
 module _ {A : Type 0} where
   -- a property of every element is one of the i-th

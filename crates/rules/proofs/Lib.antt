@@ -12,3 +12,4 @@ pub mod Steps
 pub mod SecondHalf
 pub mod Refusals
 pub mod Caller
+pub mod Dummies

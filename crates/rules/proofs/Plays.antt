@@ -12,8 +12,9 @@ use lib.Seq.{length-take-le, take-length}
 use borrow.Author.Tests.{eq-eqb}
 use Rattle.rules.specs.Track.{ruling, headerOf, fragments, fragmentCount, timescale, boundaries}
 use Rattle.rules.specs.Player.{Piece, Stream, State, pieceAt, rules1to18, good, streamOf, fits, begin, goes, after, onOption, stepOn, Played, stuck, passed, tick, playFrom, firstStart, playStreams, play}
+use Rattle.rules.specs.Plans.{All}
 use Rattle.rules.specs.declared.Rule.the-variants.{Holds}
-use Rattle.rules.proofs.Laws.{All, all-map, beyond, drop-first, drop-rest, map-at, map-none}
+use Rattle.rules.proofs.Laws.{all-map, beyond, drop-first, drop-rest, map-at, map-none}
 use Rattle.rules.proofs.Boundaries.{Tiles, Tiled, tiles-fewer, sound, tiled, boundaries-length}
 use Rattle.rules.proofs.Stuck.{step-goes, play-step, play-stuck}
 

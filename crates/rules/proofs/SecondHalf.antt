@@ -5,7 +5,7 @@ use mathlib.Core.Bool.{Bool, true, false}
 use mathlib.Core.Option.{some, Option·none-ne-some, Option·some-injective}
 use mathlib.Core.List.{List, [], _∷_}
 use Prim.Native.Nat.{ℕ, zero, suc, _+_, _≤_, _<_, max}
-use native.Mathlib.Decide.{decLt, decLe}
+use native.Mathlib.Decide.{decLt}
 use native.Mathlib.Omega.{arith}
 use lib.ListN.{length, drop, getElem?, getD, replicate, length-replicate}
 use lib.Dec.{eqb}
@@ -13,13 +13,14 @@ use borrow.Author.Tests.{eqb-true, eqb-false, eq-eqb}
 use Rattle.rules.specs.Rules.{_then_, must, ofTrack}
 use Rattle.rules.specs.Track.{ruling, fragments, fragmentCount, timescale, boundaries}
 use Rattle.rules.specs.Set.{hdlrAt, mdhdAt, handler, rule25, rule26, rule27, firstOr, rule28From, rule28, agrees, rulings, agree, track0, setRuling}
-use Rattle.rules.specs.Player.{Played, stuck, passed, play}
+use Rattle.rules.specs.Player.{passed, play}
+use Rattle.rules.specs.Plans.{All, longest, Comparable, OneStuck, TicksDiffer, ToldApart, Singly, OneKind}
 use Rattle.rules.specs.declared.Rule.{Rule}
 use Rattle.rules.specs.declared.Rule.the-variants.{Holds, Breaks}
-use Rattle.rules.proofs.Laws.{All, all-at}
+use Rattle.rules.proofs.Laws.{all-at, is-below}
 use Rattle.rules.proofs.Then.{then-holds, must-true}
-use Rattle.rules.proofs.Boundaries.{no-boundaries}
-use Rattle.rules.proofs.Plays.{alone, too-long}
+use Rattle.rules.proofs.Boundaries.{a-fragment}
+use Rattle.rules.proofs.Plays.{all-stay, alone, too-long}
 
 -- a refusal with this number, track and place
 abbrev pub Refusal : Rule → ℕ → ℕ → ℕ → Type 0
@@ -93,14 +94,14 @@ named s₀ j (s ∷ ss) n k p h = go (agrees s₀ s) refl h (named s₀ (j + 1) 
         (0, s, omega (arith, y .1), refl, differs s₀ s n b p (rw e (y .0, refl, y .2)))
 
 -- tracks accepted one by one have no broken ruling
-pub all-hold : (k : ℕ) (ss : List (List ℕ)) → All (λ s. ruling s ≡ Holds) ss → rulings k ss ≡ Holds
+pub all-hold : (k : ℕ) (ss : List (List ℕ)) → Singly ss → rulings k ss ≡ Holds
 unfolding rulings ofTrack
 all-hold k [] h = refl
 all-hold k (s ∷ ss) h =
     then-holds (rulings (k + 1) ss) (ap (ofTrack k) (h .0)) ∙ all-hold (k + 1) ss (h .1)
 
 -- a set of tracks accepted one by one that is refused: track 0, and the track that the refusal names
-pub told-apart : (ss : List (List ℕ)) (n k p : ℕ) → All (λ s. ruling s ≡ Holds) ss → setRuling ss ≡ Breaks n k p
+pub told-apart : (ss : List (List ℕ)) (n k p : ℕ) → Singly ss → setRuling ss ≡ Breaks n k p
     → (s : List ℕ) × (getElem? ss 0 ≡ some (track0 ss)) × (getElem? ss k ≡ some s) × Difference (track0 ss) s n
 unfolding setRuling agree
 told-apart [] n k p a h =
@@ -119,19 +120,6 @@ trackAt ss k = getD ss k []
 unfoldable pub stays : List (List ℕ) → ℕ → ℕ → List ℕ
 stays ss k i = replicate (max (fragmentCount (track0 ss)) (fragmentCount (trackAt ss k))) i
 
--- the longest track's number of fragments
-unfoldable pub longest : List (List ℕ) → ℕ
-longest [] = 0
-longest (s ∷ ss) = max (fragmentCount s) (longest ss)
-
--- one runs through and the other gets stuck
-abbrev pub OneStuck : Played → Played → Type 0
-OneStuck a b = ((ts : List ℕ) × (a ≡ passed ts) × (b ≡ stuck)) ⊎ ((ts : List ℕ) × (a ≡ stuck) × (b ≡ passed ts))
-
--- both run and their ticks differ
-abbrev pub TicksDiffer : Played → Played → Type 0
-TicksDiffer a b = (ts : List ℕ) × (us : List ℕ) × (a ≡ passed ts) × (b ≡ passed us) × (ts ≡ us → ⊥)
-
 -- a track of a set is no longer than its longest
 no-longer : (ss : List (List ℕ)) (i : ℕ) (s : List ℕ) → getElem? ss i ≡ some s → fragmentCount s ≤ longest ss
 unfolding longest
@@ -145,19 +133,17 @@ track-at [] i s e = absurd (Option·none-ne-some s e)
 track-at (t ∷ ss) zero s e = Option·some-injective t s e
 track-at (t ∷ ss) (suc i) s e = track-at ss i s e
 
--- the two plans are of equal length, at most the longest track's number of fragments
-pub stays-equal : (ss : List (List ℕ)) (k i j : ℕ) → length (stays ss k i) ≡ length (stays ss k j)
+-- what holds of a choice holds of every choice of the plan that stays on it
+stays-on : (P : ℕ → Type 0) (ss : List (List ℕ)) (k i : ℕ) → P i → All P (stays ss k i)
 unfolding stays
-stays-equal ss k i j =
-    let n = max (fragmentCount (track0 ss)) (fragmentCount (trackAt ss k)) in
-    length-replicate n i ∙ sym (length-replicate n j)
+stays-on P ss k i h = all-stay P (max (fragmentCount (track0 ss)) (fragmentCount (trackAt ss k))) i h
 
 -- as long a plan as a track has fragments runs through
-through : (ss : List (List ℕ)) → All (λ s. ruling s ≡ Holds) ss → (i : ℕ) (s : List ℕ) (n : ℕ) → getElem? ss i ≡ some s → 1 ≤ n
+through : (ss : List (List ℕ)) → Singly ss → (i : ℕ) (s : List ℕ) (n : ℕ) → getElem? ss i ≡ some s → 1 ≤ n
     → n ≡ fragmentCount s → play ss (replicate n i) ≡ passed (boundaries s)
 through ss a i s n e l q = rw q (alone ss i s e (all-at (λ t. ruling t ≡ Holds) ss i s a e) (omega (arith, l, q)))
 
-module _ (ss : List (List ℕ)) (n k p : ℕ) (a : All (λ s. ruling s ≡ Holds) ss) (h : setRuling ss ≡ Breaks n k p) where
+module _ (ss : List (List ℕ)) (n k p : ℕ) (a : Singly ss) (h : setRuling ss ≡ Breaks n k p) where
   -- the track that the refusal names, and how it differs from track 0
   s : List ℕ
   s = told-apart ss n k p a h .0
@@ -176,19 +162,36 @@ module _ (ss : List (List ℕ)) (n k p : ℕ) (a : All (λ s. ruling s ≡ Holds
   as-at-k : fragmentCount (trackAt ss k) ≡ fragmentCount s
   as-at-k = ap fragmentCount (track-at ss k s at-k)
 
-  -- how long the plans are
+  -- the refusal names a track of the set
+  pub names-a-track : k < length ss
+  names-a-track = is-below ss k s at-k
+
+  -- how long the plans are: at least one step, at most the longest track's number of fragments
   long : ℕ
   long = max (fragmentCount (track0 ss)) (fragmentCount (trackAt ss k))
 
-  pub stays-short : (i : ℕ) → length (stays ss k i) ≤ longest ss
-  unfolding stays
-  stays-short i =
-      omega (
-        arith,
-        length-replicate (max (fragmentCount (track0 ss)) (fragmentCount (trackAt ss k))) i,
-        no-longer ss 0 (track0 ss) at-0,
-        no-longer ss k s at-k,
-        as-at-k,
+  a-step : 1 ≤ long
+  unfolding long
+  a-step =
+      let f = a-fragment (track0 ss) (all-at (λ t. ruling t ≡ Holds) ss 0 (track0 ss) a at-0) in
+      omega (arith, f)
+
+  no-longer-than : long ≤ longest ss
+  unfolding long
+  no-longer-than = omega (arith, no-longer ss 0 (track0 ss) at-0, no-longer ss k s at-k, as-at-k)
+
+  stays-long : (i : ℕ) → length (stays ss k i) ≡ long
+  unfolding stays long
+  stays-long i = length-replicate (max (fragmentCount (track0 ss)) (fragmentCount (trackAt ss k))) i
+
+  -- the two plans compare
+  pub stays-compare : Comparable ss (stays ss k 0) (stays ss k k)
+  stays-compare =
+      let first = is-below ss 0 (track0 ss) at-0 in (
+        (omega (arith, a-step, stays-long 0), stays-on _ ss k 0 (omega (arith, first))),
+        (omega (arith, a-step, stays-long k), stays-on _ ss k k (omega (arith, names-a-track))),
+        stays-long 0 ∙ sym (stays-long k),
+        omega (arith, no-longer-than, stays-long 0),
       )
 
   -- tracks of other lengths: the plans on the longer run through, and on the shorter get stuck
@@ -214,23 +217,18 @@ module _ (ss : List (List ℕ)) (n k p : ℕ) (a : All (λ s. ruling s ≡ Holds
   by-boundary : fragmentCount s ≡ fragmentCount (track0 ss) → (boundaries s ≡ boundaries (track0 ss) → ⊥)
       → TicksDiffer (play ss (stays ss k 0)) (play ss (stays ss k k))
   unfolding stays long
-  by-boundary c d = go (decLe 1 long)
-    where
-      go : Dec (1 ≤ long) → TicksDiffer (play ss (replicate long 0)) (play ss (replicate long k))
-      go (yes l) = (
-        boundaries (track0 ss),
-        boundaries s,
-        through ss a 0 (track0 ss) long at-0 l (omega (arith, as-at-k, c)),
-        through ss a k s long at-k l (omega (arith, as-at-k, c)),
-        λ q. d (sym q),
-      )
-      go (no l) =
-          absurd (d (no-boundaries s (omega (arith, l, as-at-k)) ∙ sym (no-boundaries (track0 ss) (omega (arith, l)))))
+  by-boundary c d = (
+    boundaries (track0 ss),
+    boundaries s,
+    through ss a 0 (track0 ss) long at-0 a-step (omega (arith, as-at-k, c)),
+    through ss a k s long at-k a-step (omega (arith, as-at-k, c)),
+    λ q. d (sym q),
+  )
 
--- under 27: one of the two plans runs through and the other gets stuck
-pub second-half-27 : (ss : List (List ℕ)) (k p : ℕ) → All (λ s. ruling s ≡ Holds) ss → setRuling ss ≡ Breaks 27 k p
-    → OneStuck (play ss (stays ss k 0)) (play ss (stays ss k k))
-second-half-27 ss k p a h = go (difference ss 27 k p a h)
+-- under 27: the refusal names a track of the set, the two plans compare, one of them runs through and the other gets stuck
+pub second-half-27 : (ss : List (List ℕ)) (k p : ℕ) → Singly ss → setRuling ss ≡ Breaks 27 k p
+    → (k < length ss) × Comparable ss (stays ss k 0) (stays ss k k) × OneStuck (play ss (stays ss k 0)) (play ss (stays ss k k))
+second-half-27 ss k p a h = (names-a-track ss 27 k p a h, stays-compare ss 27 k p a h, go (difference ss 27 k p a h))
   where
     go : Difference (track0 ss) (s ss 27 k p a h) 27 → OneStuck (play ss (stays ss k 0)) (play ss (stays ss k k))
     go (of25 n d) = let z : ⊥ = omega (arith, n) in absurd z
@@ -238,10 +236,10 @@ second-half-27 ss k p a h = go (difference ss 27 k p a h)
     go (of27 n d) = by-length ss 27 k p a h d
     go (of28 n c d) = let z : ⊥ = omega (arith, n) in absurd z
 
--- under 28: both plans run and their ticks differ
-pub second-half-28 : (ss : List (List ℕ)) (k p : ℕ) → All (λ s. ruling s ≡ Holds) ss → setRuling ss ≡ Breaks 28 k p
-    → TicksDiffer (play ss (stays ss k 0)) (play ss (stays ss k k))
-second-half-28 ss k p a h = go (difference ss 28 k p a h)
+-- under 28: the refusal names a track of the set, the two plans compare, both run and their ticks differ
+pub second-half-28 : (ss : List (List ℕ)) (k p : ℕ) → Singly ss → setRuling ss ≡ Breaks 28 k p
+    → (k < length ss) × Comparable ss (stays ss k 0) (stays ss k k) × TicksDiffer (play ss (stays ss k 0)) (play ss (stays ss k k))
+second-half-28 ss k p a h = (names-a-track ss 28 k p a h, stays-compare ss 28 k p a h, go (difference ss 28 k p a h))
   where
     go : Difference (track0 ss) (s ss 28 k p a h) 28 → TicksDiffer (play ss (stays ss k 0)) (play ss (stays ss k k))
     go (of25 n d) = let z : ⊥ = omega (arith, n) in absurd z
@@ -249,23 +247,15 @@ second-half-28 ss k p a h = go (difference ss 28 k p a h)
     go (of27 n d) = let z : ⊥ = omega (arith, n) in absurd z
     go (of28 n c d) = by-boundary ss 28 k p a h c d
 
--- two plans that tell a set apart: of equal length, at most the longest track's number of fragments; one runs through and the
--- other gets stuck, or both run and their ticks differ
-abbrev pub ToldApart : (List (List ℕ) → List ℕ → Played) → List (List ℕ) → List ℕ → List ℕ → Type 0
-ToldApart player ss one other =
-    (length one ≡ length other)
-    × (length one ≤ longest ss)
-    × (OneStuck (player ss one) (player ss other) ⊎ TicksDiffer (player ss one) (player ss other))
-
 -- the second half: tracks accepted singly and refused as a set under 27 or 28; the plans stay on track 0 and on the track that the refusal names
-pub second-half : (ss : List (List ℕ)) (k p : ℕ) → All (λ s. ruling s ≡ Holds) ss
+pub second-half : (ss : List (List ℕ)) (k p : ℕ) → Singly ss
     → (setRuling ss ≡ Breaks 27 k p) ⊎ (setRuling ss ≡ Breaks 28 k p) → ToldApart play ss (stays ss k 0) (stays ss k k)
-second-half ss k p a (inl h) = (stays-equal ss k 0 k, stays-short ss 27 k p a h 0, inl (second-half-27 ss k p a h))
-second-half ss k p a (inr h) = (stays-equal ss k 0 k, stays-short ss 28 k p a h 0, inr (second-half-28 ss k p a h))
+second-half ss k p a (inl h) = let y = second-half-27 ss k p a h in (y .1, inl (y .2))
+second-half ss k p a (inr h) = let y = second-half-28 ss k p a h in (y .1, inr (y .2))
 
 -- tracks accepted singly, of one handler and one timescale, are refused as a set under 27 or 28 and no other number
-pub only-27-or-28 : (ss : List (List ℕ)) (n k p : ℕ) → All (λ s. ruling s ≡ Holds) ss
-    → All (λ s. (handler s ≡ handler (track0 ss)) × (timescale s ≡ timescale (track0 ss))) ss → setRuling ss ≡ Breaks n k p
+pub only-27-or-28 : (ss : List (List ℕ)) (n k p : ℕ) → Singly ss
+    → OneKind ss → setRuling ss ≡ Breaks n k p
     → (n ≡ 27) ⊎ (n ≡ 28)
 only-27-or-28 ss n k p a o h = go (told-apart ss n k p a h .0) (told-apart ss n k p a h .2) (told-apart ss n k p a h .3)
   where
@@ -276,8 +266,8 @@ only-27-or-28 ss n k p a o h = go (told-apart ss n k p a h .0) (told-apart ss n 
     go s e (of28 q c d) = inr q
 
 -- so of one handler and one timescale: any refusal of the set at all gives the two plans
-pub second-half-refused : (ss : List (List ℕ)) (n k p : ℕ) → All (λ s. ruling s ≡ Holds) ss
-    → All (λ s. (handler s ≡ handler (track0 ss)) × (timescale s ≡ timescale (track0 ss))) ss → setRuling ss ≡ Breaks n k p
+pub second-half-refused : (ss : List (List ℕ)) (n k p : ℕ) → Singly ss
+    → OneKind ss → setRuling ss ≡ Breaks n k p
     → ToldApart play ss (stays ss k 0) (stays ss k k)
 second-half-refused ss n k p a o h = go (only-27-or-28 ss n k p a o h)
   where

@@ -13,12 +13,13 @@ use Rattle.rules.specs.Fragment.{syncIn}
 use Rattle.rules.specs.Track.{ruling, headerOf, fragments, fragmentCount, startAt, endAt, boundaries}
 use Rattle.rules.specs.Set.{track0, setRuling}
 use Rattle.rules.specs.Player.{Piece, fedAt, pieceAt}
+use Rattle.rules.specs.Plans.{Plan}
 use Rattle.rules.specs.declared.Rule.the-variants.{Holds}
 use Rattle.rules.proofs.Laws.{all-at, below, is-below, map-at}
 use Rattle.rules.proofs.Walk.{DataBox}
 use Rattle.rules.proofs.Boundaries.{Tiles, Tiled, boxed-data, tiled, boundaries-length}
 use Rattle.rules.proofs.Samples.{EachOf, Whole, mdatEnd, samples-whole}
-use Rattle.rules.proofs.FirstHalf.{Plan, Alike, all-alike}
+use Rattle.rules.proofs.FirstHalf.{Alike, all-alike}
 
 -- the step of number j of a plan takes the fragment at x of the track s: it chooses s, and x is the place of its j-th fragment
 abbrev pub Takes : List (List ℕ) → List ℕ → ℕ → List ℕ → ℕ → Type 0
@@ -72,7 +73,7 @@ module _ (ss : List (List ℕ)) (plan : List ℕ) (h : setRuling ss ≡ Holds) (
   unfolding fragmentCount
   no-fragment-missing j l =
       let c = below plan j l in
-      let n = below ss (c .0) (all-at (λ i. i < length ss) plan j (c .0) (p .2) (c .1)) in
+      let n = below ss (c .0) (all-at (λ i. i < length ss) plan j (c .0) (p .0 .1) (c .1)) in
       let y = below (fragments (n .0)) j (omega (arith, l, p .1, like (c .0) (n .0) (n .1) .2)) in
       (n .0, y .0, (c .0, c .1, n .1, y .1))
 

@@ -12,6 +12,7 @@ use Rattle.rules.specs.Kinds.{ftyp, moov, moof, mdat}
 use Rattle.rules.specs.Boxes.{Box, look, grow, forest, tops, boxes, placesOf, headOf, sizeOf, kindOf, whole}
 use Rattle.rules.specs.Order.{ordered, awaits, step6, onStepped, orderFrom, rule6}
 use Rattle.rules.specs.Track.{fragmentsFrom, fragments, mdatAt}
+use Rattle.rules.specs.Plans.{All}
 use Rattle.rules.specs.declared.Path.{Path}
 use Rattle.rules.specs.declared.Path.the-variants.{Flat}
 use Rattle.rules.specs.declared.Look.{Look}
@@ -21,7 +22,6 @@ use Rattle.rules.specs.declared.Stage.the-variants.{Start, Typed, Headed
 use Rattle.rules.specs.declared.Stepped.{Stepped}
 use Rattle.rules.specs.declared.Stepped.the-variants.{To, Wrong}
 use Rattle.rules.specs.declared.Rule.the-variants.{Holds, Breaks}
-use Rattle.rules.proofs.Laws.{All}
 use Rattle.rules.proofs.Then.{broken}
 use Rattle.rules.proofs.Forest.{Found, look-found, sprout}
 

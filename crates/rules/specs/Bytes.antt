@@ -69,3 +69,11 @@ fragment start offset payload = moofOf start (run 0 offset []) ++ boxed mdat (ze
 -- T: two fragments from 0
 unfoldable pub trackT : List ℕ
 trackT = header ++ fragment 0 108 30 ++ fragment 180000 108 30
+
+-- a track of one fragment from a start, with its data offset and the payload's length
+unfoldable pub single : ℕ → ℕ → ℕ → List ℕ
+single start offset payload = header ++ fragment start offset payload
+
+-- T, a tick later
+unfoldable pub shifted : List ℕ
+shifted = header ++ fragment 1 108 30 ++ fragment 180001 108 30

@@ -10,6 +10,8 @@ pub mod Track
 pub mod Bundle
 pub mod Set
 pub mod Player
+pub mod Plans
 pub mod Bytes
 pub mod Computed
 pub mod Examples
+pub mod Sets

@@ -1,0 +1,49 @@
+-- Small sets, computed: T by itself is accepted; T beside a shorter track is refused under 27, beside itself a tick later under 28, though
+-- the durations agree.
+use mathlib.Core.Path.{_≡_, refl}
+use mathlib.Core.List.{[], _∷_}
+use Rattle.rules.specs.Bytes.{single, shifted, trackT}
+use Rattle.rules.specs.Computed.{computed}
+use Rattle.rules.specs.Track.{ruling, fragmentCount, timescale}
+use Rattle.rules.specs.Set.{handler, setRuling}
+use Rattle.rules.specs.declared.Rule.the-variants.{Holds, Breaks}
+
+-- each of these tracks is accepted by itself
+pub T-accepted : ruling trackT ≡ Holds
+unfolding computed
+T-accepted = refl
+
+pub single-accepted : ruling (single 0 108 30) ≡ Holds
+unfolding computed single
+single-accepted = refl
+
+pub shifted-accepted : ruling shifted ≡ Holds
+unfolding computed shifted
+shifted-accepted = refl
+
+-- and has T's handler and timescale
+pub single-alike : (handler (single 0 108 30) ≡ handler trackT) × (timescale (single 0 108 30) ≡ timescale trackT)
+unfolding computed single
+single-alike = (refl, refl)
+
+pub shifted-alike : (handler shifted ≡ handler trackT) × (timescale shifted ≡ timescale trackT)
+unfolding computed shifted
+shifted-alike = (refl, refl)
+
+-- T has two fragments, and by itself is a set
+pub T-fragments : fragmentCount trackT ≡ 2
+unfolding computed
+T-fragments = refl
+
+pub set-of-T : setRuling (trackT ∷ []) ≡ Holds
+unfolding computed
+set-of-T = refl
+
+-- the two sets that are refused
+pub set-27 : setRuling (trackT ∷ single 0 108 30 ∷ []) ≡ Breaks 27 1 630
+unfolding computed single
+set-27 = refl
+
+pub set-28 : setRuling (trackT ∷ shifted ∷ []) ≡ Breaks 28 1 492
+unfolding computed shifted
+set-28 = refl
