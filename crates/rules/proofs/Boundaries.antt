@@ -9,20 +9,18 @@ use lib.ListN.{length, take}
 use lib.Dec.{eqb}
 use borrow.Author.Tests.{eqb-true, ne-eqb}
 use Rattle.rules.specs.Rules.{_then_}
-use Rattle.rules.specs.Framing.{rules2to5}
-use Rattle.rules.specs.Order.{rule6}
 use Rattle.rules.specs.Boxes.{headOf, sizeOf, whole}
 use Rattle.rules.specs.Fragment.{startOf, tfdtIn, firstRun, syncIn, rule19, rule20, rule21, rule22, timing}
-use Rattle.rules.specs.Track.{rule1, rulesOfHeader, ruling, rules14to22, headerOf, fragments, fragmentCount, mdatAt, shapeAt, timingAt, startAt, endAt, ticksAfter, ticks, boundaries}
-use Rattle.rules.specs.Player.{Piece, fedAt, pieceAt, shapes, rules1to18}
+use Rattle.rules.specs.Track.{ruling, rules14to22, headerOf, fragments, fragmentCount, mdatAt, shapeAt, timingAt, startAt, endAt, ticksAfter, ticks, boundaries}
+use Rattle.rules.specs.Player.{Piece, fedAt, pieceAt}
 use Rattle.rules.specs.Plans.{All}
-use Rattle.rules.specs.declared.Rule.{Rule}
 use Rattle.rules.specs.declared.Rule.the-variants.{Holds}
 use Rattle.rules.specs.declared.Header.{Header}
 use Rattle.rules.proofs.Laws.{or-second}
-use Rattle.rules.proofs.Then.{then-holds, then-first, then-second, must-holds}
+use Rattle.rules.proofs.Then.{then-first, then-second, must-holds}
 use Rattle.rules.proofs.Walk.{DataBox, data-boxes, some-fragment}
 use Rattle.rules.proofs.Tiling.{fed-at}
+use Rattle.rules.proofs.Sound.{accepted-keeps}
 
 -- fragments that run from a start over the ends given, as many as there are ends: each from the last end, sync and fed
 abbrev pub Tiles : List Piece → ℕ → List ℕ → Type 0
@@ -113,61 +111,19 @@ tiled-from s h (x ∷ xs) r b =
     rw (later-ticks s h 1 (endAt s h x) xs refl l)
     (refl, refl, on-sync s h 0 0 x t, fed s h 0 0 x t (b .0), later s h 1 (endAt s h x) xs refl l (b .1))
 
--- rules put before others
-module _ where
-  last-of : (a b c d e : Rule) → a then b then c then d then e ≡ Holds → e ≡ Holds
-  last-of a b c d e h = then-second d e (then-second c _ (then-second b _ (then-second a _ h)))
-
-  third-of : (a b c d e : Rule) → a then b then c then d then e ≡ Holds → c ≡ Holds
-  third-of a b c d e h = then-first c _ (then-second b _ (then-second a _ h))
-
-  swap-last : (a b c d e f : Rule) → a then b then c then d then e ≡ Holds → f ≡ Holds → a then b then c then d then f ≡ Holds
-  swap-last a b c d e f h k =
-      let h₁ = then-second a (b then c then d then e) h in
-      let h₂ = then-second b (c then d then e) h₁ in
-      let h₃ = then-second c (d then e) h₂ in
-      then-holds _ (then-first a _ h) ∙ then-holds _ (then-first b _ h₁) ∙ then-holds _ (then-first c _ h₂) ∙ then-holds _ (then-first d _ h₃) ∙ k
-
--- 14 to 22 hold, so 14 to 18 do
-shaped : (s : List ℕ) (h : Header) (k prev : ℕ) (xs : List ℕ) → rules14to22 s h k prev xs ≡ Holds → shapes s h xs ≡ Holds
-unfolding rules14to22 shapes
-shaped s h k prev [] r = refl
-shaped s h k prev (x ∷ xs) r =
-    let rest = rules14to22 s h (k + 1) (endAt s h x) xs in
-    then-holds (shapes s h xs) (then-first (shapeAt s h x) (timingAt s h k prev x then rest) r)
-    ∙ (shaped s h (k + 1) (endAt s h x) xs
-    (then-second (timingAt s h k prev x) rest (then-second (shapeAt s h x) (timingAt s h k prev x then rest) r)))
-
--- an accepted track keeps rules 1 to 18
-pub sound : (s : List ℕ) → ruling s ≡ Holds → rules1to18 s ≡ Holds
-unfolding ruling rules1to18
-sound s r =
-    swap-last (rule1 (length s)) (rules2to5 s) (rule6 s) (rulesOfHeader s) (rules14to22 s (headerOf s) 0 0 (fragments s))
-    (shapes s (headerOf s) (fragments s)) r
-    (shaped s (headerOf s) 0 0 (fragments s)
-    (last-of (rule1 (length s)) (rules2to5 s) (rule6 s) (rulesOfHeader s) (rules14to22 s (headerOf s) 0 0 (fragments s)) r))
-
--- each of its fragments has its data box right behind it
+-- each fragment of an accepted track has its data box right behind it
 pub boxed-data : (s : List ℕ) → ruling s ≡ Holds → All (DataBox s) (fragments s)
-unfolding ruling
-boxed-data s r =
-    data-boxes s
-    (third-of (rule1 (length s)) (rules2to5 s) (rule6 s) (rulesOfHeader s) (rules14to22 s (headerOf s) 0 0 (fragments s)) r)
+boxed-data s r = data-boxes s (accepted-keeps s r .0 .2)
 
 -- it has a fragment
 pub a-fragment : (s : List ℕ) → ruling s ≡ Holds → 1 ≤ fragmentCount s
-unfolding ruling fragmentCount
-a-fragment s r =
-    some-fragment s
-    (third-of (rule1 (length s)) (rules2to5 s) (rule6 s) (rulesOfHeader s) (rules14to22 s (headerOf s) 0 0 (fragments s)) r)
+unfolding fragmentCount
+a-fragment s r = some-fragment s (accepted-keeps s r .0 .2)
 
 -- and its fragments run from boundary to boundary
 pub tiled : (s : List ℕ) → ruling s ≡ Holds → Tiled (map (pieceAt s (headerOf s)) (fragments s)) (boundaries s)
-unfolding ruling boundaries
-tiled s r =
-    tiled-from s (headerOf s) (fragments s)
-    (last-of (rule1 (length s)) (rules2to5 s) (rule6 s) (rulesOfHeader s) (rules14to22 s (headerOf s) 0 0 (fragments s)) r)
-    (boxed-data s r)
+unfolding boundaries
+tiled s r = tiled-from s (headerOf s) (fragments s) (accepted-keeps s r .1) (boxed-data s r)
 
 -- there is one boundary more than there are fragments
 after-length : (s : List ℕ) (h : Header) (e : ℕ) (xs : List ℕ) → length (ticksAfter s h e xs) ≡ suc (length xs)
@@ -197,13 +153,3 @@ same-length s₁ s₂ h₁ h₂ (x ∷ xs) (y ∷ ys) e =
 pub as-many : (s₁ s₂ : List ℕ) → fragmentCount s₁ ≡ fragmentCount s₂ → length (boundaries s₁) ≡ length (boundaries s₂)
 unfolding boundaries fragmentCount
 as-many s₁ s₂ e = same-length s₁ s₂ (headerOf s₁) (headerOf s₂) (fragments s₁) (fragments s₂) e
-
--- a track of no fragments has no boundaries
-no-ticks : (s : List ℕ) (h : Header) (xs : List ℕ) → length xs < 1 → ticks s h xs ≡ []
-unfolding ticks
-no-ticks s h [] l = refl
-no-ticks s h (x ∷ xs) l = let z : ⊥ = omega (arith, l) in absurd z
-
-pub no-boundaries : (s : List ℕ) → fragmentCount s < 1 → boundaries s ≡ []
-unfolding boundaries fragmentCount
-no-boundaries s l = no-ticks s (headerOf s) (fragments s) l

@@ -5,11 +5,12 @@ pub mod Walk
 pub mod Samples
 pub mod Stuck
 pub mod Tiling
+pub mod Refusals
+pub mod Sound
 pub mod Boundaries
 pub mod Plays
 pub mod FirstHalf
 pub mod Steps
 pub mod SecondHalf
-pub mod Refusals
 pub mod Caller
 pub mod Dummies

@@ -15,8 +15,9 @@ use Rattle.rules.specs.Player.{Piece, Stream, State, pieceAt, rules1to18
 use Rattle.rules.specs.Plans.{All}
 use Rattle.rules.specs.declared.Rule.the-variants.{Holds}
 use Rattle.rules.proofs.Laws.{all-map, beyond, drop-first, drop-rest, map-at, map-none}
-use Rattle.rules.proofs.Boundaries.{Tiles, Tiled, tiles-fewer, sound, tiled, boundaries-length}
+use Rattle.rules.proofs.Boundaries.{Tiles, Tiled, tiles-fewer, tiled, boundaries-length}
 use Rattle.rules.proofs.Stuck.{step-goes, play-step, play-stuck}
+use Rattle.rules.proofs.Sound.{sound}
 
 -- a track that fits: rules 1 to 18 hold, this timescale, and from the k-th on fragments from a start over these ends
 abbrev pub Fits : ℕ → ℕ → ℕ → List ℕ → Stream → Type 0

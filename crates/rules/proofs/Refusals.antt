@@ -1,5 +1,5 @@
--- The numbers of refusals: none is 0, and a track's own are at most 22. So a verdict of number 0 is an acceptance, and one of 27 or 28
--- is about tracks that are accepted singly.
+-- The numbers of refusals, rule by rule: none is 0, a track's own are at most 22, and those from 19 on are about the timing of its
+-- fragments. So a verdict of number 0 is an acceptance, and one of 27 or 28 is about tracks that are accepted singly.
 use mathlib.Core.Path.{_≡_, refl, subst}
 use mathlib.Core.Bool.{Bool, true, false}
 use mathlib.Core.List.{List, [], _∷_}
@@ -40,132 +40,134 @@ use Rattle.rules.specs.declared.Defaults.{Defaults}
 use Rattle.rules.specs.declared.Header.{Header}
 use Rattle.rules.proofs.Forest.{sprout}
 
--- a rule that, where it breaks, gives a number from 1 to a highest
-pub record Numbered (top : ℕ) (r : Rule) : Type 0 where
-  pub told : (n t p : ℕ) → r ≡ Breaks n t p → (1 ≤ n) × (n ≤ top)
+-- a rule that, where it breaks, gives a number from a lowest to a highest
+pub record Numbered (low top : ℕ) (r : Rule) : Type 0 where
+  pub told : (n t p : ℕ) → r ≡ Breaks n t p → (low ≤ n) × (n ≤ top)
 
 -- the same by the rule's cases
-abbrev Counts : ℕ → Rule → Type 0
-Counts top Holds = Unit {0}
-Counts top (Breaks n t p) = (1 ≤ n) × (n ≤ top)
+abbrev Counts : ℕ → ℕ → Rule → Type 0
+Counts low top Holds = Unit {0}
+Counts low top (Breaks n t p) = (low ≤ n) × (n ≤ top)
 
-of-counts : (top : ℕ) (r : Rule) → Counts top r → Numbered top r
-of-counts top r c = record { told = λ n t p e. subst (Counts top) e c }
+of-counts : (low top : ℕ) (r : Rule) → Counts low top r → Numbered low top r
+of-counts low top r c = record { told = λ n t p e. subst (Counts low top) e c }
 
-to-counts : (top : ℕ) (r : Rule) → Numbered top r → Counts top r
-to-counts top Holds h = tt
-to-counts top (Breaks n t p) h = h .told n t p refl
+to-counts : (low top : ℕ) (r : Rule) → Numbered low top r → Counts low top r
+to-counts low top Holds h = tt
+to-counts low top (Breaks n t p) h = h .told n t p refl
 
--- a higher highest
-wider : (top up : ℕ) (r : Rule) → top ≤ up → Numbered top r → Numbered up r
-wider top up r l h = record { told = λ n t p e. let y = h .told n t p e in (y .0, omega (arith, l, y .1)) }
+-- a lower lowest and a higher highest
+pub wider : (low top down up : ℕ) (r : Rule) → down ≤ low → top ≤ up → Numbered low top r → Numbered down up r
+wider low top down up r d u h =
+    record { told = λ n t p e. let y = h .told n t p e in (omega (arith, d, y .0), omega (arith, u, y .1)) }
 
 -- how rules are put together
-n-then : {top : ℕ} (r q : Rule) → Numbered top r → Numbered top q → Numbered top (r then q)
+pub n-then : {low top : ℕ} (r q : Rule) → Numbered low top r → Numbered low top q → Numbered low top (r then q)
 unfolding _then_
 n-then Holds q h k = k
 n-then (Breaks n t p) q h k = h
 
-n-must : {top : ℕ} (b : Bool) (n p : ℕ) → 1 ≤ n → n ≤ top → Numbered top (must b n p)
+n-must : {low top : ℕ} (b : Bool) (n p : ℕ) → low ≤ n → n ≤ top → Numbered low top (must b n p)
 unfolding must
-n-must {top} true n p l u = of-counts top Holds tt
-n-must {top} false n p l u = of-counts top (Breaks n 0 p) (l, u)
+n-must {low} {top} true n p l u = of-counts low top Holds tt
+n-must {low} {top} false n p l u = of-counts low top (Breaks n 0 p) (l, u)
 
-n-holds : {top : ℕ} → Numbered top Holds
-n-holds {top} = of-counts top Holds tt
+pub n-holds : {low top : ℕ} → Numbered low top Holds
+n-holds {low} {top} = of-counts low top Holds tt
 
-n-track : {top : ℕ} (k : ℕ) (r : Rule) → Numbered top r → Numbered top (ofTrack k r)
+n-track : {low top : ℕ} (k : ℕ) (r : Rule) → Numbered low top r → Numbered low top (ofTrack k r)
 unfolding ofTrack
 n-track k Holds h = h
-n-track {top} k (Breaks n t p) h = of-counts top (Breaks n k p) (to-counts top (Breaks n t p) h)
+n-track {low} {top} k (Breaks n t p) h = of-counts low top (Breaks n k p) (to-counts low top (Breaks n t p) h)
 
-n-one-of : {top : ℕ} (n c i : ℕ) (v : Seen) → 1 ≤ n → n ≤ top → Numbered top (oneOf n c i v)
+n-one-of : {low top : ℕ} (n c i : ℕ) (v : Seen) → low ≤ n → n ≤ top → Numbered low top (oneOf n c i v)
 unfolding oneOf
-n-one-of {top} n c i Never l u = of-counts top (Breaks n 0 c) (l, u)
+n-one-of {low} {top} n c i Never l u = of-counts low top (Breaks n 0 c) (l, u)
 n-one-of n c i (Once a) l u = n-holds
-n-one-of {top} n c i (Twice a b) l u = of-counts top (Breaks n 0 (i + b)) (l, u)
+n-one-of {low} {top} n c i (Twice a b) l u = of-counts low top (Breaks n 0 (i + b)) (l, u)
 
-n-at-most : {top : ℕ} (n i : ℕ) (v : Seen) → 1 ≤ n → n ≤ top → Numbered top (atMostOneOf n i v)
+n-at-most : {low top : ℕ} (n i : ℕ) (v : Seen) → low ≤ n → n ≤ top → Numbered low top (atMostOneOf n i v)
 unfolding atMostOneOf
 n-at-most n i Never l u = n-holds
 n-at-most n i (Once a) l u = n-holds
-n-at-most {top} n i (Twice a b) l u = of-counts top (Breaks n 0 (i + b)) (l, u)
+n-at-most {low} {top} n i (Twice a b) l u = of-counts low top (Breaks n 0 (i + b)) (l, u)
 
-n-some-of : {top : ℕ} (n c : ℕ) (v : Seen) → 1 ≤ n → n ≤ top → Numbered top (someOf n c v)
+n-some-of : {low top : ℕ} (n c : ℕ) (v : Seen) → low ≤ n → n ≤ top → Numbered low top (someOf n c v)
 unfolding someOf
-n-some-of {top} n c Never l u = of-counts top (Breaks n 0 c) (l, u)
+n-some-of {low} {top} n c Never l u = of-counts low top (Breaks n 0 c) (l, u)
 n-some-of n c (Once a) l u = n-holds
 n-some-of n c (Twice a b) l u = n-holds
 
-n-one : {top : ℕ} (n base : ℕ) (m : List ℕ) (at w : ℕ) → 1 ≤ n → n ≤ top → Numbered top (one n base m at w)
+n-one : {low top : ℕ} (n base : ℕ) (m : List ℕ) (at w : ℕ) → low ≤ n → n ≤ top → Numbered low top (one n base m at w)
 unfolding one
 n-one n base m at w l u = n-one-of n _ _ (seen w (kids m at)) l u
 
-n-at-most-one : {top : ℕ} (n base : ℕ) (m : List ℕ) (at w : ℕ) → 1 ≤ n → n ≤ top → Numbered top (atMostOne n base m at w)
+n-at-most-one : {low top : ℕ} (n base : ℕ) (m : List ℕ) (at w : ℕ) → low ≤ n → n ≤ top → Numbered low top (atMostOne n base m at w)
 unfolding atMostOne
 n-at-most-one n base m at w l u = n-at-most n _ (seen w (kids m at)) l u
 
 ruleset joined = (n-then, n-must, n-holds, n-one, n-at-most-one, n-some-of, leb→le, tt)
 
 -- the header
-n-edts : (base : ℕ) (m : List ℕ) (at : ℕ) → Numbered 22 (rule7edts base m at)
+n-edts : (base : ℕ) (m : List ℕ) (at : ℕ) → Numbered 7 13 (rule7edts base m at)
 unfolding rule7edts
 n-edts base m at = go (seen edts (kids m at))
   where
     r : Rule
     r = one 7 base m (child m at edts) elst
 
-    go : (v : Seen) → Numbered 22 (onSeen v Holds (λ a. r) (λ a b. r))
+    go : (v : Seen) → Numbered 7 13 (onSeen v Holds (λ a. r) (λ a b. r))
     go Never = n-holds
     go (Once a) = n-one 7 base m (child m at edts) elst (omega arith) (omega arith)
     go (Twice a b) = n-one 7 base m (child m at edts) elst (omega arith) (omega arith)
 
-n-7 : (base : ℕ) (m : List ℕ) → Numbered 22 (rule7 base m)
+n-7 : (base : ℕ) (m : List ℕ) → Numbered 7 13 (rule7 base m)
 unfolding rule7 rule7moov rule7trak rule7mdia rule7minf rule7dinf rule7stbl rule7mvex
 n-7 base m = search (joined, n-edts) depth 30 fits 5000
 
-n-8 : (base : ℕ) (f m : List ℕ) (p : Places) → Numbered 22 (rule8 base f m p)
+n-8 : (base : ℕ) (f m : List ℕ) (p : Places) → Numbered 7 13 (rule8 base f m p)
 unfolding rule8
 n-8 base f m p = search joined depth 30 fits 5000
 
-n-header : (base : ℕ) (f m : List ℕ) → Numbered 22 (rules7to13 base f m)
+n-header : (base : ℕ) (f m : List ℕ) → Numbered 7 13 (rules7to13 base f m)
 unfolding rules7to13 rule9 rule10 rule11 rule12 rule13
 n-header base f m = search (joined, n-7, n-8) depth 30 fits 5000
 
 -- a fragment
-n-15-runs : (base : ℕ) (m rs : List ℕ) → Numbered 22 (rule15runs base m rs)
+n-15-runs : (base : ℕ) (m rs : List ℕ) → Numbered 14 18 (rule15runs base m rs)
 unfolding rule15runs
 n-15-runs base m [] = n-holds
 n-15-runs base m (r ∷ rs) = n-then _ _ (n-must _ 15 _ (omega arith) (omega arith)) (n-15-runs base m rs)
 
-n-16-runs : (base : ℕ) (m rs : List ℕ) → Numbered 22 (rule16runs base m rs)
+n-16-runs : (base : ℕ) (m rs : List ℕ) → Numbered 14 18 (rule16runs base m rs)
 unfolding rule16runs
 n-16-runs base m [] = n-holds
 n-16-runs base m (r ∷ rs) = n-then _ _ (n-must _ 16 _ (omega arith) (omega arith)) (n-16-runs base m rs)
 
-n-22-runs : (base : ℕ) (m : List ℕ) (d : Defaults) (first : Bool) (e : ℕ) (rs : List ℕ) → Numbered 22 (rule22runs base m d first e rs)
+n-22-runs : (base : ℕ) (m : List ℕ) (d : Defaults) (first : Bool) (e : ℕ) (rs : List ℕ) → Numbered 19 22 (rule22runs base m d first e rs)
 unfolding rule22runs
 n-22-runs base m d first e [] = n-holds
 n-22-runs base m d first e (r ∷ rs) = n-then _ _ (n-must _ 22 _ (omega arith) (omega arith)) (n-22-runs base m d false _ rs)
 
-n-shape : (base : ℕ) (m : List ℕ) (id : ℕ) → Numbered 22 (shape base m id)
+pub n-shape : (base : ℕ) (m : List ℕ) (id : ℕ) → Numbered 14 18 (shape base m id)
 unfolding shape rule14 rule15 rule16 rule17 rule18
 n-shape base m id = search (joined, n-15-runs, n-16-runs) depth 30 fits 5000
 
-n-timing : (base : ℕ) (m : List ℕ) (d : Defaults) (head payload k prev : ℕ) → Numbered 22 (timing base m d head payload k prev)
+pub n-timing : (base : ℕ) (m : List ℕ) (d : Defaults) (head payload k prev : ℕ) → Numbered 19 22 (timing base m d head payload k prev)
 unfolding timing rule19 rule20 rule21 rule22
 n-timing base m d head payload k prev = search (joined, n-22-runs) depth 30 fits 5000
 
-n-fragments : (s : List ℕ) (h : Header) (k prev : ℕ) (xs : List ℕ) → Numbered 22 (rules14to22 s h k prev xs)
+n-fragments : (s : List ℕ) (h : Header) (k prev : ℕ) (xs : List ℕ) → Numbered 14 22 (rules14to22 s h k prev xs)
 unfolding rules14to22 shapeAt timingAt
 n-fragments s h k prev [] = n-holds
 n-fragments s h k prev (x ∷ xs) =
-    n-then _ _ (n-shape _ _ _) (n-then _ _ (n-timing _ _ _ _ _ _ _) (n-fragments s h (k + 1) (endAt s h x) xs))
+    n-then _ _ (wider 14 18 14 22 _ (omega arith) (omega arith) (n-shape _ _ _))
+    (n-then _ _ (wider 19 22 14 22 _ (omega arith) (omega arith) (n-timing _ _ _ _ _ _ _)) (n-fragments s h (k + 1) (endAt s h x) xs))
 
 -- the framing: a broken header hands on 2, 3 or 4
 abbrev Sound : Forest → Type 0
 Sound end = Unit {0}
-Sound (bad n p) = (1 ≤ n) × (n ≤ 22)
+Sound (bad n p) = (2 ≤ n) × (n ≤ 5)
 Sound (node x i r) = Sound i × Sound r
 
 grown : (f : ℕ) (p : Path) (s : List ℕ) (at : ℕ) → Sound (grow f p s at)
@@ -185,15 +187,15 @@ grown (suc f) p s at = go (look s at) (λ q t a. grown f q t a)
     go Beyond g = omega arith
     go (Framed-header h z k) g = (inner (inside p k) (part s (at + h) (z - h)) g, g p s (at + z))
 
-n-rule5 : (n place : ℕ) (r : Framing) → Counts 22 (framingRule r) → Counts 22 (framingRule (rule5 n place r))
+n-rule5 : (n place : ℕ) (r : Framing) → Counts 2 5 (framingRule r) → Counts 2 5 (framingRule (rule5 n place r))
 unfolding rule5
 n-rule5 n place r h = go (leb boxLimit n)
   where
-    go : (b : Bool) → Counts 22 (framingRule (when b (Misframed 5 place) r))
+    go : (b : Bool) → Counts 2 5 (framingRule (when b (Misframed 5 place) r))
     go true = omega arith
     go false = h
 
-n-framing : (t : Forest) (base n : ℕ) → Sound t → Counts 22 (framingRule (framing t base n))
+n-framing : (t : Forest) (base n : ℕ) → Sound t → Counts 2 5 (framingRule (framing t base n))
 unfolding framing
 n-framing end base n h = tt
 n-framing (bad k p) base n h = n-rule5 n (base + p) (Misframed k (base + p)) h
@@ -201,13 +203,13 @@ n-framing (node x i r) base n h =
     n-rule5 n (base + x .at) _
     (go (framing i (base + x .at + x .head) (n + 1)) (n-framing i (base + x .at + x .head) (n + 1) (h .0)) (λ m. n-framing r base m (h .1)))
   where
-    go : (y : Framing) → Counts 22 (framingRule y) → ((m : ℕ) → Counts 22 (framingRule (framing r base m)))
-        → Counts 22 (framingRule (onFraming y (λ m. framing r base m) (λ k p. Misframed k p)))
+    go : (y : Framing) → Counts 2 5 (framingRule y) → ((m : ℕ) → Counts 2 5 (framingRule (framing r base m)))
+        → Counts 2 5 (framingRule (onFraming y (λ m. framing r base m) (λ k p. Misframed k p)))
     go (Framed m) c f = f m
     go (Misframed k p) c f = c
 
 -- the order
-n-order : (len : ℕ) (g : Stage) (xs : List Box) → Counts 22 (orderFrom len g xs)
+n-order : (len : ℕ) (g : Stage) (xs : List Box) → Counts 6 6 (orderFrom len g xs)
 unfolding orderFrom
 n-order len Start [] = omega arith
 n-order len Typed [] = omega arith
@@ -216,79 +218,100 @@ n-order len Halved [] = omega arith
 n-order len Paired [] = tt
 n-order len g (x ∷ xs) = go (step6 g (x .kind)) (λ h. n-order len h xs)
   where
-    go : (p : Stepped) → ((h : Stage) → Counts 22 (orderFrom len h xs)) → Counts 22 (onStepped p (λ h. orderFrom len h xs) (Breaks 6 0 (x .at)))
+    go : (p : Stepped) → ((h : Stage) → Counts 6 6 (orderFrom len h xs)) → Counts 6 6 (onStepped p (λ h. orderFrom len h xs) (Breaks 6 0 (x .at)))
     go (To h) f = f h
     go Wrong f = omega arith
 
--- a track
-n-ruling : (s : List ℕ) → Numbered 22 (ruling s)
-unfolding ruling rule1 rule6 rulesOfHeader forest
+-- the rules of a track, group by group
+n-length : (n : ℕ) → Numbered 1 1 (rule1 n)
+unfolding rule1
+n-length n = n-must _ 1 _ (omega arith) (omega arith)
+
+n-framed : (s : List ℕ) → Numbered 2 5 (rules2to5 s)
+unfolding forest
+n-framed s = of-counts 2 5 (rules2to5 s) (n-framing (forest Top s 0) 0 0 (grown (length s - 0) Top s 0))
+
+n-ordered : (s : List ℕ) → Numbered 6 6 (rule6 s)
+unfolding rule6
+n-ordered s = of-counts 6 6 (rule6 s) (n-order (length s) Start (boxes s 0))
+
+n-headed : (s : List ℕ) → Numbered 7 13 (rulesOfHeader s)
+unfolding rulesOfHeader
+n-headed s = n-header _ _ _
+
+-- and together: 1 to 13, before others from 7 on
+pub n-before : (top : ℕ) (s : List ℕ) (q : Rule) → 13 ≤ top → Numbered 7 top q
+    → Numbered 1 top (rule1 (length s) then rules2to5 s then rule6 s then rulesOfHeader s then q)
+n-before top s q l h =
+    n-then _ _ (wider 1 1 1 top _ (omega arith) (omega (arith, l)) (n-length (length s)))
+    (n-then _ _ (wider 2 5 1 top _ (omega arith) (omega (arith, l)) (n-framed s))
+    (n-then _ _ (wider 6 6 1 top _ (omega arith) (omega (arith, l)) (n-ordered s))
+    (n-then _ _ (wider 7 13 1 top _ (omega arith) (omega (arith, l)) (n-headed s))
+    (wider 7 top 1 top _ (omega arith) (omega arith) h))))
+
+n-ruling : (s : List ℕ) → Numbered 1 22 (ruling s)
+unfolding ruling
 n-ruling s =
-    n-then _ _ (n-must _ 1 _ (omega arith) (omega arith))
-    (n-then _ _ (of-counts 22 (rules2to5 s) (n-framing (forest Top s 0) 0 0 (grown (length s - 0) Top s 0)))
-    (n-then _ _ (of-counts 22 (rule6 s) (n-order (length s) Start (boxes s 0)))
-    (n-then _ _ (n-header _ _ _) (n-fragments s (headerOf s) 0 0 (fragments s)))))
+    n-before 22 s _ (omega arith)
+    (wider 14 22 7 22 _ (omega arith) (omega arith) (n-fragments s (headerOf s) 0 0 (fragments s)))
 
 -- a set
-n-28 : (last : ℕ) (xs ys ps : List ℕ) → Numbered 28 (rule28From last xs ys ps)
+n-28 : (last : ℕ) (xs ys ps : List ℕ) → Numbered 25 28 (rule28From last xs ys ps)
 unfolding rule28From
 n-28 last [] ys ps = n-holds
 n-28 last (x ∷ xs) ys ps = n-then _ _ (n-must _ 28 _ (omega arith) (omega arith)) (n-28 _ xs _ _)
 
-n-agrees : (s₀ s : List ℕ) → Numbered 28 (agrees s₀ s)
+n-agrees : (s₀ s : List ℕ) → Numbered 25 28 (agrees s₀ s)
 unfolding agrees rule25 rule26 rule27 rule28
 n-agrees s₀ s = search (joined, n-28) depth 30
 
-n-rulings : (k : ℕ) (ss : List (List ℕ)) → Numbered 22 (rulings k ss)
+n-rulings : (k : ℕ) (ss : List (List ℕ)) → Numbered 1 22 (rulings k ss)
 unfolding rulings
 n-rulings k [] = n-holds
 n-rulings k (s ∷ ss) = n-then _ _ (n-track k (ruling s) (n-ruling s)) (n-rulings (k + 1) ss)
 
-n-agree : (s₀ : List ℕ) (k : ℕ) (ss : List (List ℕ)) → Numbered 28 (agree s₀ k ss)
+n-agree : (s₀ : List ℕ) (k : ℕ) (ss : List (List ℕ)) → Numbered 25 28 (agree s₀ k ss)
 unfolding agree
 n-agree s₀ k [] = n-holds
 n-agree s₀ k (s ∷ ss) = n-then _ _ (n-track k (agrees s₀ s) (n-agrees s₀ s)) (n-agree s₀ (k + 1) ss)
 
-n-24 : (k : ℕ) (rs : Records) → Counts 24 (rule24From k rs)
+n-24 : (k : ℕ) (rs : Records) → Counts 24 24 (rule24From k rs)
 unfolding rule24From
 n-24 k none = go (eqb k 0)
   where
-    go : (b : Bool) → Counts 24 (when b (Breaks 24 0 0) Holds)
+    go : (b : Bool) → Counts 24 24 (when b (Breaks 24 0 0) Holds)
     go true = omega arith
     go false = tt
 n-24 k (wrong at) = omega arith
 n-24 k (track from n rs) = n-24 (k + 1) rs
 
--- the rules before the set's own, of a bundle
-n-length : (n : ℕ) → Numbered 24 (rule1 n)
-unfolding rule1
-n-length n = n-must _ 1 _ (omega arith) (omega arith)
-
-n-records : (b : List ℕ) → Numbered 24 (rule24 b)
+n-records : (b : List ℕ) → Numbered 24 24 (rule24 b)
 unfolding rule24
-n-records b = of-counts 24 _ (n-24 0 (records b))
+n-records b = of-counts 24 24 _ (n-24 0 (records b))
 
 -- the numbers of a bundle's refusals are 1 to 28: none is 0
-pub refusals-1-to-28 : (b : List ℕ) → Numbered 28 (bundleRuling b)
+pub refusals-1-to-28 : (b : List ℕ) → Numbered 1 28 (bundleRuling b)
 unfolding bundleRuling setRuling
 refusals-1-to-28 b =
-    n-then _ _ (wider 24 28 _ (omega arith) (n-length (length b)))
-    (n-then _ _ (wider 24 28 _ (omega arith) (n-records b))
-    (n-then _ _ (wider 22 28 _ (omega arith) (n-rulings 0 (tracks b))) (n-agree _ 1 _)))
+    n-then _ _ (wider 1 1 1 28 _ (omega arith) (omega arith) (n-length (length b)))
+    (n-then _ _ (wider 24 24 1 28 _ (omega arith) (omega arith) (n-records b))
+    (n-then _ _ (wider 1 22 1 28 _ (omega arith) (omega arith) (n-rulings 0 (tracks b)))
+    (wider 25 28 1 28 _ (omega arith) (omega arith) (n-agree _ 1 _))))
 
--- a number beyond a rule's own comes from what follows it
-passes : (top : ℕ) (r q : Rule) (n k p : ℕ) → Numbered top r → top < n → r then q ≡ Breaks n k p → (r ≡ Holds) × (q ≡ Breaks n k p)
+-- a number that isn't one of a rule's own comes from what follows it
+pub passes : (low top : ℕ) (r q : Rule) (n k p : ℕ) → Numbered low top r → (low ≤ n → n ≤ top → ⊥) → r then q ≡ Breaks n k p
+    → (r ≡ Holds) × (q ≡ Breaks n k p)
 unfolding _then_
-passes top Holds q n k p h l e = (refl, e)
-passes top (Breaks a b c) q n k p h l e = let z : ⊥ = omega (arith, l, h .told n k p e .1) in absurd z
+passes low top Holds q n k p h f e = (refl, e)
+passes low top (Breaks a b c) q n k p h f e = let y = h .told n k p e in absurd (f (y .0) (y .1))
 
 -- a bundle refused under a number beyond 24 holds tracks that are accepted singly, and is refused as a set
 pub refused-as-set : (b : List ℕ) (n k p : ℕ) → 24 < n → bundleRuling b ≡ Breaks n k p
     → (rulings 0 (tracks b) ≡ Holds) × (setRuling (tracks b) ≡ Breaks n k p)
 unfolding bundleRuling setRuling
 refused-as-set b n k p l h =
-    let e₁ = passes 24 (rule1 (length b)) (rule24 b then setRuling (tracks b)) n k p (n-length (length b)) l h in
-    let e₂ = passes 24 (rule24 b) (setRuling (tracks b)) n k p (n-records b) l (e₁ .1) in
     let rest = agree (track0 (tracks b)) 1 (drop 1 (tracks b)) in
-    let e₃ = passes 22 (rulings 0 (tracks b)) rest n k p (n-rulings 0 (tracks b)) (omega (arith, l)) (e₂ .1) in
+    let e₁ = passes 1 1 (rule1 (length b)) (rule24 b then setRuling (tracks b)) n k p (n-length (length b)) (λ d u. omega (arith, l, u)) h in
+    let e₂ = passes 24 24 (rule24 b) (setRuling (tracks b)) n k p (n-records b) (λ d u. omega (arith, l, u)) (e₁ .1) in
+    let e₃ = passes 1 22 (rulings 0 (tracks b)) rest n k p (n-rulings 0 (tracks b)) (λ d u. omega (arith, l, u)) (e₂ .1) in
     (e₃ .0, e₂ .1)

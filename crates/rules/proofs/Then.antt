@@ -1,5 +1,5 @@
 -- Laws of rules in their order: what a broken rule, a rule that holds, and a test come to.
-use mathlib.Core.Path.{_≡_, refl, sym, subst}
+use mathlib.Core.Path.{_≡_, refl, sym, subst, _∙_}
 use mathlib.Core.Bool.{Bool, true, false}
 use Prim.Native.Nat.{ℕ}
 use Rattle.rules.specs.Rules.{_then_, must, ofTrack}
@@ -58,6 +58,17 @@ then-second (Breaks n t p) q e = absurd (broken e)
 
 pub then-both : (r q : Rule) → (r then q) ≡ Holds → (r ≡ Holds) × (q ≡ Holds)
 then-both r q e = (then-first r q e, then-second r q e)
+
+-- two rules that hold, hold together
+pub both-hold : (r q : Rule) → r ≡ Holds → q ≡ Holds → (r then q) ≡ Holds
+both-hold r q h k = then-holds q h ∙ k
+
+-- a refusal stays where what follows is exchanged for what would refuse alike
+pub then-under : (r q q′ : Rule) (n t p : ℕ) → (q ≡ Breaks n t p → q′ ≡ Breaks n t p) → (r then q) ≡ Breaks n t p
+    → (r then q′) ≡ Breaks n t p
+unfolding _then_
+then-under Holds q q′ n t p f e = f e
+then-under (Breaks a b c) q q′ n t p f e = e
 
 -- a test whose rule holds
 pub must-holds : (b : Bool) (n p : ℕ) → must b n p ≡ Holds → b ≡ true
