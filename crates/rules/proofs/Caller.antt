@@ -10,7 +10,7 @@ use lib.Seq.{take-append-le}
 use lib.Dec.{ltb}
 use Rattle.numbers.specs.Numbers.{when}
 use Rattle.rules.specs.Rules.{_then_, onRule}
-use Rattle.rules.specs.Track.{rule1, ruling, fragmentCount, timescale, boundaries, Outcome, refused, accepted, roomFor}
+use Rattle.rules.specs.Track.{rule1, fragmentCount, timescale, boundaries, Outcome, refused, accepted, roomFor}
 use Rattle.rules.specs.Bundle.{Records, none, wrong, track, records, rule24From, rule24, tracksOf, tracks}
 use Rattle.rules.specs.Set.{rulings, agree, track0, setRuling, bundleRuling, setOutcome}
 use Rattle.rules.specs.Player.{Played, passed, play}

@@ -2,7 +2,7 @@
 -- passes every plan over a set's tracks without looking which of them it names fails the second.
 use mathlib.Core.Path.{_≡_, refl, sym, ap, subst, _∙_}
 use mathlib.Core.Logic.{_⊎_, inl, inr}
-use mathlib.Core.Bool.{Bool, true, false, _&&_}
+use mathlib.Core.Bool.{Bool, true, _&&_}
 use mathlib.Core.List.{List, [], _∷_}
 use Prim.Native.Nat.{ℕ, _+_, _<_}
 use native.Mathlib.Omega.{arith}
@@ -13,11 +13,12 @@ use Rattle.numbers.specs.Numbers.{when}
 use Rattle.rules.specs.Bytes.{single, shifted, trackT}
 use Rattle.rules.specs.Track.{boundaries}
 use Rattle.rules.specs.Set.{track0}
-use Rattle.rules.specs.Player.{Played, stuck, passed, play}
-use Rattle.rules.specs.Plans.{All, Over, Comparable, OneStuck, TicksDiffer, Player, ToldApart, Singly, OneKind, HasFirstHalf, HasSecondHalf, HasStuckHalf}
+use Rattle.rules.specs.Player.{stuck, passed, play}
+use Rattle.rules.specs.Plans.{All, Over, Comparable, OneStuck, TicksDiffer, Player, ToldApart, HasFirstHalf, HasSecondHalf, HasStuckHalf}
 use Rattle.rules.specs.Sets.{T-accepted, T-fragments, single-accepted, shifted-accepted, single-alike, shifted-alike, set-of-T, set-27, set-28}
 use Rattle.rules.proofs.Laws.{and-both}
-use Rattle.rules.proofs.FirstHalf.{Passes, first-half}
+use Rattle.rules.proofs.Plays.{Passes, passed-same}
+use Rattle.rules.proofs.FirstHalf.{first-half}
 use Rattle.rules.proofs.SecondHalf.{stays, second-half, second-half-27}
 
 -- the player of the written rules has them all
@@ -29,14 +30,6 @@ player-second ss k p a o h = (stays ss k 0, stays ss k k, second-half ss k p a h
 
 pub player-stuck : HasStuckHalf play
 player-stuck ss k p a o h = let y = second-half-27 ss k p a h in (stays ss k 0, stays ss k k, y .1, y .2)
-
--- ticks passed that are one play are one list
-abbrev Ticks : Played → List ℕ
-Ticks stuck = []
-Ticks (passed ts) = ts
-
-passed-same : (ts us : List ℕ) → passed ts ≡ passed us → ts ≡ us
-passed-same ts us e = ap Ticks e
 
 -- stuck on all: such a player fails the first half, on T by itself
 pub stuck-on-all-fails : (player : Player) → ((ss : List (List ℕ)) (plan : List ℕ) → player ss plan ≡ stuck) → HasFirstHalf player → ⊥

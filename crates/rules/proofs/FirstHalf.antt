@@ -1,7 +1,7 @@
 -- Demand 3, first half: every switching plan of an accepted set plays, and what that means fragment by fragment.
 use mathlib.Core.Path.{_≡_, refl, sym, ap₂, subst, _∙_}
 use mathlib.Core.List.{List, [], _∷_}
-use Prim.Native.Nat.{ℕ, _+_, _≤_, _<_}
+use Prim.Native.Nat.{ℕ, _+_, _<_}
 use native.Mathlib.Omega.{arith}
 use lib.ListN.{length, take, drop}
 use lib.Dec.{eqb}
@@ -10,13 +10,13 @@ use Rattle.rules.specs.Rules.{_then_, must, ofTrack}
 use Rattle.rules.specs.Track.{rule1, ruling, fragments, fragmentCount, timescale, boundaries}
 use Rattle.rules.specs.Bundle.{rule24, tracks}
 use Rattle.rules.specs.Set.{rule25, rule26, rule27, firstOr, rule28From, rule28, agrees, rulings, agree, track0, setRuling, bundleRuling}
-use Rattle.rules.specs.Player.{Played, stuck, passed, play}
+use Rattle.rules.specs.Player.{stuck, passed, play}
 use Rattle.rules.specs.Plans.{All, Plan, Singly, HasFirstHalf}
 use Rattle.rules.specs.declared.Rule.the-variants.{Holds}
 use Rattle.rules.proofs.Laws.{all-at, all-map, below}
 use Rattle.rules.proofs.Then.{then-first, then-second, must-holds, of-track}
 use Rattle.rules.proofs.Boundaries.{boundaries-length, as-many}
-use Rattle.rules.proofs.Plays.{Chooses, alike-plays}
+use Rattle.rules.proofs.Plays.{Passes, Chooses, alike-plays}
 
 -- an accepted track that is like another: the same timescale, as many fragments, the same boundaries
 abbrev pub Alike : List ℕ → List ℕ → Type 0
@@ -100,11 +100,6 @@ accepted-set b h =
 pub first-half-bundle : (b plan : List ℕ) → bundleRuling b ≡ Holds → Plan (tracks b) plan
     → play (tracks b) plan ≡ passed (take (length plan + 1) (boundaries (track0 (tracks b))))
 first-half-bundle b plan h p = first-half (tracks b) plan (accepted-set b h) p
-
--- a play that passes ticks isn't stuck
-abbrev pub Passes : Played → Type 0
-Passes stuck = ⊥
-Passes (passed ts) = Unit {0}
 
 -- never stuck: no plan of an accepted set is
 pub never-stuck : (ss : List (List ℕ)) (plan : List ℕ) → setRuling ss ≡ Holds → Plan ss plan → play ss plan ≡ stuck → ⊥

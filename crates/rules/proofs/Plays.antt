@@ -1,5 +1,5 @@
 -- The player's law: any plan whose named tracks fit one list of boundaries runs, and passes that list. And what it depends on.
-use mathlib.Core.Path.{_≡_, refl, sym, ap, ap₂, _∙_}
+use mathlib.Core.Path.{_≡_, refl, sym, ap, ap₂, subst, _∙_}
 use mathlib.Core.Bool.{true}
 use mathlib.Core.Option.{Option, none, some}
 use mathlib.Core.List.{List, [], _∷_, map}
@@ -10,13 +10,13 @@ use native.Mathlib.Omega.{arith}
 use lib.ListN.{length, take, drop, getElem?, replicate, length-replicate, length-map}
 use lib.Seq.{length-take-le, take-length}
 use borrow.Author.Tests.{eq-eqb}
-use Rattle.rules.specs.Track.{ruling, headerOf, fragments, fragmentCount, timescale, boundaries}
+use Rattle.rules.specs.Track.{ruling, headerOf, fragments, fragmentCount, timescale, startAt, boundaries}
 use Rattle.rules.specs.Player.{Piece, Stream, State, pieceAt, rules1to18, good, streamOf, fits, begin, goes, after, onOption, stepOn, Played, stuck, passed, tick, playFrom, firstStart, playStreams, play}
 use Rattle.rules.specs.Plans.{All}
 use Rattle.rules.specs.declared.Rule.the-variants.{Holds}
 use Rattle.rules.proofs.Laws.{all-map, beyond, drop-first, drop-rest, map-at, map-none}
 use Rattle.rules.proofs.Boundaries.{Tiles, Tiled, tiles-fewer, tiled, boundaries-length}
-use Rattle.rules.proofs.Stuck.{step-goes, play-step, play-stuck}
+use Rattle.rules.proofs.Stuck.{step-goes, play-step, play-stuck, plan-stuck, play-is-stuck, went-through}
 use Rattle.rules.proofs.Sound.{sound}
 
 -- a track that fits: rules 1 to 18 hold, this timescale, and from the k-th on fragments from a start over these ends
@@ -92,6 +92,52 @@ fitting ts scale (i ∷ plan) (b ∷ bs) a h l n =
     let y = next-piece (t .pieces) 0 a b bs (n .0 .2 .2) in
     let r : playFrom ts begin (i ∷ plan) ≡ passed (b ∷ bs) = runs ts scale (i ∷ plan) (b ∷ bs) a begin l refl refl n in
     ap₂ (λ (x : ℕ) (q : Played). tick x q) (first-start ts i plan t (y .0) (n .0 .1) (y .1) ∙ y .2) r
+
+-- a play that passes ticks isn't stuck
+abbrev pub Passes : Played → Type 0
+Passes stuck = ⊥
+Passes (passed ts) = Unit {0}
+
+-- ticks passed that are one play are one list
+abbrev Ticks : Played → List ℕ
+Ticks stuck = []
+Ticks (passed ts) = ts
+
+pub passed-same : (ts us : List ℕ) → passed ts ≡ passed us → ts ≡ us
+passed-same ts us e = ap Ticks e
+
+-- a tick put before others is the first tick passed
+tick-first : (n : ℕ) (r : Played) (ts : List ℕ) → tick n r ≡ passed ts → (us : List ℕ) × (ts ≡ n ∷ us)
+tick-first n stuck ts e = absurd (subst Passes (sym e) tt)
+tick-first n (passed us) ts e = (us, sym (passed-same (n ∷ us) ts e))
+
+-- ticks that begin with the start of the first fragment of the track that a choice names
+abbrev pub BeginsAt : List (List ℕ) → ℕ → List ℕ → Type 0
+BeginsAt ss i ts =
+    (s : List ℕ) × (x : ℕ) × (us : List ℕ) × (getElem? ss i ≡ some s) × (getElem? (fragments s) 0 ≡ some x) × (ts ≡ startAt s x ∷ us)
+
+-- the first tick passed, in any play that runs and of any tracks, is the start of the first fragment chosen
+pub first-tick : (ss : List (List ℕ)) (i : ℕ) (plan ts : List ℕ) → play ss (i ∷ plan) ≡ passed ts → BeginsAt ss i ts
+unfolding play playStreams playFrom begin streamOf pieceAt
+first-tick ss i plan ts h = go (getElem? ss i) refl
+  where
+    never : playFrom (map streamOf ss) begin (i ∷ plan) ≡ stuck → BeginsAt ss i ts
+    never e = absurd (subst Passes (sym h ∙ play-is-stuck ss i plan e) tt)
+
+    step : (s : List ℕ) → getElem? ss i ≡ some s → (o : Option Piece) → stepOn begin (streamOf s) ≡ o → BeginsAt ss i ts
+    step s e none q = never (plan-stuck ss begin i plan s e q)
+    step s e (some p) q =
+        let w = went-through begin s p q in
+        let x = w .0 in
+        let y = tick-first (firstStart (map streamOf ss) (i ∷ plan)) (playFrom (map streamOf ss) begin (i ∷ plan)) ts h in
+        let f = pieceAt s (headerOf s) in
+        let first : firstStart (map streamOf ss) (i ∷ plan) ≡ startAt s x =
+        first-start (map streamOf ss) i plan (streamOf s) (f x) (map-at streamOf ss i s e) (map-at f (fragments s) 0 x (w .1 .0)) in
+        (s, x, y .0, e, w .1 .0, y .1 ∙ ap {B = List ℕ} (λ (a : ℕ). a ∷ y .0) first)
+
+    go : (o : Option (List ℕ)) → getElem? ss i ≡ o → BeginsAt ss i ts
+    go none e = never (rw (map-none streamOf ss i e))
+    go (some s) e = step s e (stepOn begin (streamOf s)) refl
 
 -- a choice of a set that names an accepted track with this timescale and these boundaries
 abbrev pub Chooses : List (List ℕ) → ℕ → List ℕ → ℕ → Type 0

@@ -8,6 +8,7 @@ use native.Mathlib.Nat.{not-suc-le-zero}
 use native.Mathlib.Omega.{arith}
 use native.Mathlib.Decide.{ℕ-discrete}
 use lib.Dec.{leb}
+use lib.ListN.{length}
 use lib.IntN.{ℤ, pos, negsuc, _+ℤ_}
 use borrow.Author.Tests.{leb-true, le-leb, eq-eqb, eqb-true}
 use Rattle.numbers.specs.Numbers.{isPlace}
@@ -48,6 +49,10 @@ NotNext place next size = place ≡ pos next → ⊥
 
 abbrev pub Past : ℕ → OfSample
 Past till place next size = till < next + size
+
+-- in plain numbers: its bytes begin at a place at or behind `from`, end at or before `till`, and `till` is inside `len` bytes
+abbrev pub Lies : ℕ → ℕ → ℕ → OfSample
+Lies from till len place next size = (b : ℕ) × (place ≡ pos b) × (from ≤ b) × (b + size ≤ till) × (till ≤ len)
 
 -- a signed number that is a place
 pub place-is : (o : ℤ) (e : ℕ) → isPlace o e ≡ true → o ≡ pos e
@@ -136,33 +141,47 @@ clash q w f x m d before next (r ∷ rs) e (inl s) =
 clash q w f x m d before next (r ∷ rs) e (inr s) =
     clash q w f x m d (runStart x m before r +ℤ pos (runBytes m d r)) (next + runBytes m d r) rs (e .1) s
 
+-- where the `mdat` payload of the fragment at x begins, and where the `mdat` ends
+abbrev pub payloadAt : List ℕ → ℕ → ℕ
+payloadAt s x = mdatAt s x + headOf s (mdatAt s x)
+
+abbrev pub mdatEnd : List ℕ → ℕ → ℕ
+mdatEnd s x = mdatAt s x + sizeOf s (mdatAt s x)
+
 -- every sample, and some sample, of the fragment at x of a track: from the first byte of its `mdat` payload
 abbrev pub EachOf : OfSample → List ℕ → ℕ → Type 0
 EachOf q s x =
-    EverySample q x (whole s x) (defaultsIn (whole s x) (headerOf s .defaults)) (pos x) (mdatAt s x + headOf s (mdatAt s x))
-    (runsIn (whole s x))
+    EverySample q x (whole s x) (defaultsIn (whole s x) (headerOf s .defaults)) (pos x) (payloadAt s x) (runsIn (whole s x))
 
 abbrev pub SomeOf : OfSample → List ℕ → ℕ → Type 0
 SomeOf q s x =
-    SomeSample q x (whole s x) (defaultsIn (whole s x) (headerOf s .defaults)) (pos x) (mdatAt s x + headOf s (mdatAt s x))
-    (runsIn (whole s x))
-
--- where the `mdat` of the fragment at x ends
-abbrev pub mdatEnd : List ℕ → ℕ → ℕ
-mdatEnd s x = mdatAt s x + sizeOf s (mdatAt s x)
+    SomeSample q x (whole s x) (defaultsIn (whole s x) (headerOf s .defaults)) (pos x) (payloadAt s x) (runsIn (whole s x))
 
 -- a fragment feeds the player exactly where each of its samples is whole
 pub fragment-fed : (s : List ℕ) (x : ℕ) → EachOf (Whole (mdatEnd s x)) s x → fedAt s (headerOf s) x ≡ true
 unfolding fedAt
 fragment-fed s x h =
-    every-fed x (whole s x) (defaultsIn (whole s x) (headerOf s .defaults)) (pos x) (mdatAt s x + headOf s (mdatAt s x)) (mdatEnd s x)
-    (runsIn (whole s x)) h
+    every-fed x (whole s x) (defaultsIn (whole s x) (headerOf s .defaults)) (pos x) (payloadAt s x) (mdatEnd s x) (runsIn (whole s x)) h
 
 pub samples-whole : (s : List ℕ) (x : ℕ) → fedAt s (headerOf s) x ≡ true → EachOf (Whole (mdatEnd s x)) s x
 unfolding fedAt
 samples-whole s x h =
-    fed-every x (whole s x) (defaultsIn (whole s x) (headerOf s .defaults)) (pos x) (mdatAt s x + headOf s (mdatAt s x)) (mdatEnd s x)
-    (runsIn (whole s x)) h
+    fed-every x (whole s x) (defaultsIn (whole s x) (headerOf s .defaults)) (pos x) (payloadAt s x) (mdatEnd s x) (runsIn (whole s x)) h
+
+-- samples that are whole, the next byte being behind `from`, lie between it and the data box's end
+lying : (from till len : ℕ) → till ≤ len → (x : ℕ) (m : List ℕ) (d : Defaults) (before : ℤ) (next : ℕ) (rs : List ℕ) → from ≤ next
+    → EverySample (Whole till) x m d before next rs → EverySample (Lies from till len) x m d before next rs
+lying from till len u x m d before next [] l h = tt
+lying from till len u x m d before next (r ∷ rs) l h = (
+  λ i j. let w = h .0 i j in (next + sumTo (bytesOf m d r) i, w .0, omega (arith, l), w .1, u),
+  lying from till len u x m d (runStart x m before r +ℤ pos (runBytes m d r)) (next + runBytes m d r) rs (omega (arith, l)) (h .1),
+)
+
+pub samples-lie : (s : List ℕ) (x : ℕ) → mdatEnd s x ≤ length s → EachOf (Whole (mdatEnd s x)) s x
+    → EachOf (Lies (payloadAt s x) (mdatEnd s x) (length s)) s x
+samples-lie s x u h =
+    lying (payloadAt s x) (mdatEnd s x) (length s) u x (whole s x) (defaultsIn (whole s x) (headerOf s .defaults)) (pos x) (payloadAt s x)
+    (runsIn (whole s x)) (omega arith) h
 
 -- a sample that is not whole leaves the player unfed
 pub unfed : (w : OfSample) (s : List ℕ) (x : ℕ)
@@ -173,5 +192,5 @@ unfed w s x f h = go (fedAt s (headerOf s) x) refl
     go : (t : Bool) → fedAt s (headerOf s) x ≡ t → t ≡ false
     go false e = refl
     go true e =
-        absurd (clash (Whole (mdatEnd s x)) w f x (whole s x) (defaultsIn (whole s x) (headerOf s .defaults)) (pos x)
-        (mdatAt s x + headOf s (mdatAt s x)) (runsIn (whole s x)) (samples-whole s x e) h)
+        absurd (clash (Whole (mdatEnd s x)) w f x (whole s x) (defaultsIn (whole s x) (headerOf s .defaults)) (pos x) (payloadAt s x)
+        (runsIn (whole s x)) (samples-whole s x e) h)

@@ -18,7 +18,7 @@ use Rattle.rules.specs.declared.Rule.the-variants.{Holds}
 use Rattle.rules.proofs.Laws.{all-at, below, is-below, map-at}
 use Rattle.rules.proofs.Walk.{DataBox}
 use Rattle.rules.proofs.Boundaries.{Tiles, Tiled, boxed-data, tiled, boundaries-length}
-use Rattle.rules.proofs.Samples.{EachOf, Whole, mdatEnd, samples-whole}
+use Rattle.rules.proofs.Samples.{EachOf, Whole, Lies, payloadAt, mdatEnd, samples-whole, samples-lie}
 use Rattle.rules.proofs.FirstHalf.{Alike, all-alike}
 
 -- the step of number j of a plan takes the fragment at x of the track s: it chooses s, and x is the place of its j-th fragment
@@ -109,6 +109,11 @@ module _ (ss : List (List ℕ)) (plan : List ℕ) (h : setRuling ss ≡ Holds) (
     -- each sample comes whole from its own fragment's data box, the next bytes each time
     pub samples-whole-and-next : EachOf (Whole (mdatEnd s x)) s x
     samples-whole-and-next = samples-whole s x (told .3)
+
+    -- so, in plain numbers, each sample of each run: its bytes begin at or behind the first byte of its data box's payload and end at or
+    -- before the data box's end, and the data box ends inside the track
+    pub each-sample-inside : EachOf (Lies (payloadAt s x) (mdatEnd s x) (length s)) s x
+    each-sample-inside = samples-lie s x (own-data-box .2) samples-whole-and-next
 
   -- each fragment starts on the tick where the last ended, whichever tracks the two steps chose
   pub starts-where-the-last-ended : (j : ℕ) (s s′ : List ℕ) (x x′ : ℕ) → Takes ss plan j s x → Takes ss plan (suc j) s′ x′

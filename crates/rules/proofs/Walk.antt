@@ -70,7 +70,7 @@ after-moof g k h e q = go g (rw (eqb-true k moof e) at q)
 -- the data box behind the `moof` at x: of type `mdat`, its size at least its header's length, and inside the slice
 abbrev pub DataBox : List ℕ → ℕ → Type 0
 DataBox s x =
-    (kindOf s (mdatAt s x) ≡ mdat) × (headOf s (mdatAt s x) ≤ sizeOf s (mdatAt s x)) × (sizeOf s (mdatAt s x) ≤ length s - mdatAt s x)
+    (kindOf s (mdatAt s x) ≡ mdat) × (headOf s (mdatAt s x) ≤ sizeOf s (mdatAt s x)) × (mdatAt s x + sizeOf s (mdatAt s x) ≤ length s)
 
 -- a `moof`'s data box begins where the `moof` ends
 mdat-at : (s : List ℕ) (x : ℕ) → sizeOf s x ≤ length s - x → mdatAt s x ≡ x + sizeOf s x
@@ -82,7 +82,7 @@ mdat-at s x h =
 
 -- where an `mdat` is awaited there is one
 awaited : (s : List ℕ) (len at : ℕ) (xs : List Box) → Siblings s at xs → orderFrom len Halved xs ≡ Holds
-    → (kindOf s at ≡ mdat) × (headOf s at ≤ sizeOf s at) × (sizeOf s at ≤ length s - at)
+    → (kindOf s at ≡ mdat) × (headOf s at ≤ sizeOf s at) × (at + sizeOf s at ≤ length s)
 unfolding orderFrom step6
 awaited s len at [] y h = absurd (broken h)
 awaited s len at (x ∷ xs) y h = go (eqb (x .kind) mdat) refl h
@@ -92,7 +92,7 @@ awaited s len at (x ∷ xs) y h = go (eqb (x .kind) mdat) refl h
 
     go : (t : Bool) → eqb (x .kind) mdat ≡ t
         → onStepped (when t (To Paired) Wrong) (λ g. orderFrom len g xs) (Breaks 6 0 (x .at)) ≡ Holds
-        → (kindOf s at ≡ mdat) × (headOf s at ≤ sizeOf s at) × (sizeOf s at ≤ length s - at)
+        → (kindOf s at ≡ mdat) × (headOf s at ≤ sizeOf s at) × (at + sizeOf s at ≤ length s)
     go true e r =
         (b .kind ∙ eqb-true (x .kind) mdat e, omega (arith, b .head, b .size, b .holds), omega (arith, b .size, b .fits))
     go false e r = absurd (broken r)
