@@ -5,7 +5,8 @@ use mathlib.Core.List.{[], _∷_}
 use Rattle.rules.specs.Bytes.{single, shifted, trackT}
 use Rattle.rules.specs.Computed.{computed}
 use Rattle.rules.specs.Track.{ruling, fragmentCount, timescale}
-use Rattle.rules.specs.Set.{handler, setRuling}
+use Rattle.rules.specs.Rules.{_then_, ofTrack}
+use Rattle.rules.specs.Set.{handler, rulings, agree, setRuling}
 use Rattle.rules.specs.declared.Rule.the-variants.{Holds, Breaks}
 
 -- each of these tracks is accepted by itself
@@ -36,14 +37,22 @@ unfolding computed
 T-fragments = refl
 
 pub set-of-T : setRuling (trackT ∷ []) ≡ Holds
-unfolding computed
-set-of-T = refl
+unfolding setRuling rulings agree ofTrack _then_
+set-of-T = rw T-accepted
 
--- the two sets that are refused
-pub set-27 : setRuling (trackT ∷ single 0 108 30 ∷ []) ≡ Breaks 27 1 630
+-- the two sets that are refused: what track 1 is beside T, and so of the set
+beside-27 : agree trackT 1 (single 0 108 30 ∷ []) ≡ Breaks 27 1 630
 unfolding computed single
-set-27 = refl
+beside-27 = refl
+
+pub set-27 : setRuling (trackT ∷ single 0 108 30 ∷ []) ≡ Breaks 27 1 630
+unfolding setRuling rulings ofTrack _then_
+set-27 = rw (T-accepted, single-accepted) beside-27
+
+beside-28 : agree trackT 1 (shifted ∷ []) ≡ Breaks 28 1 492
+unfolding computed shifted
+beside-28 = refl
 
 pub set-28 : setRuling (trackT ∷ shifted ∷ []) ≡ Breaks 28 1 492
-unfolding computed shifted
-set-28 = refl
+unfolding setRuling rulings ofTrack _then_
+set-28 = rw (T-accepted, shifted-accepted) beside-28
