@@ -2,7 +2,7 @@
 use Prim.Native.Nat.{ℕ, zero, suc, _*_}
 use mathlib.Core.List.{List, [], _∷_, _++_, map}
 use mathlib.Core.Path.{_≡_, refl}
-use lib.ListN.{take}
+use lib.ListN.{take, drop}
 use Rattle.rules.specs.Kinds.{vmhd, trun, mdat, vide, soun, letters}
 use Rattle.rules.specs.Bytes.{in4, in8, zeros, boxed, headerWith, header, run, moofOf, moofOf8, fragment, trackT}
 use Rattle.rules.specs.Computed.{computed}
@@ -10,7 +10,7 @@ use Rattle.rules.specs.Boxes.{forest}
 use Rattle.rules.specs.Framing.{framing, framingRule}
 use Rattle.rules.specs.Fragment.{rule18}
 use Rattle.rules.specs.Bundle.{rule24}
-use Rattle.rules.specs.Track.{rule1, rulesOfHeader, ruling, Outcome, trackOutcome}
+use Rattle.rules.specs.Track.{rule1, ruling, Outcome, trackOutcome}
 use Rattle.rules.specs.declared.Path.the-variants.{Top}
 use Rattle.rules.specs.declared.Rule.{Rule}
 use Rattle.rules.specs.declared.Rule.the-variants.{Holds, Breaks}
@@ -117,16 +117,20 @@ pub further-limit-examples : map (λ e. e .0) furtherLimits ≡ map (λ e. e .1)
 unfolding computed startsAt samples recordsOf furtherLimits
 further-limit-examples = refl
 
--- headers that break two rules, and the one that comes first
-unfoldable pub orders : List (Rule × Rule)
+-- tracks that break two rules, and the one that comes first
+unfoldable pub orders : List (List ℕ × Rule)
 orders =
     -- timescale 0, and a handler that doesn't pair with its media header: 10, not 12
-    (rulesOfHeader (headerWith 0 soun vmhd), Breaks 10 0 244)
+    (headerWith 0 soun vmhd ++ fragment 0 108 30, Breaks 10 0 244)
     -- timescale 0, and the last byte of `moov` cut off: 4, not 10
-    ∷ (ruling (take 491 (headerWith 0 vide vmhd)), Breaks 4 0 20)
+    ∷ (take 491 (headerWith 0 vide vmhd), Breaks 4 0 20)
+    -- timescale 0, and behind that `mdhd` a `trex` that ends beyond its parent: 4 there, not 10
+    ∷ (take 460 (headerWith 0 vide vmhd) ++ in4 33 ++ drop 464 (headerWith 0 vide vmhd), Breaks 4 0 460)
+    -- timescale 0, and behind the header a box whose size field is 0: 3 there, not 10
+    ∷ (headerWith 0 vide vmhd ++ zeros 8, Breaks 3 0 492)
     ∷ []
 
 -- the order, by computation
-pub order-examples : map (λ e. e .0) orders ≡ map (λ e. e .1) orders
+pub order-examples : map (λ e. ruling (e .0)) orders ≡ map (λ e. e .1) orders
 unfolding computed orders
 order-examples = refl

@@ -15,3 +15,4 @@ pub mod Bytes
 pub mod Computed
 pub mod Examples
 pub mod Sets
+pub mod Plays
