@@ -78,7 +78,7 @@ fn first_flags_behind(m: &[u8], p: usize, flags: u32, d: Defaults) -> u32
     requires { ⌜ p ≤ 34359738368 ⌝ }
     ensures { λ a. ⌜ a ≡ firstFlagsBehind (now (m .entry)) p flags d ⌝ }
 {
-    if numbers::has(flags, 0x4) {
+    if numbers::has(flags, 0x4) { // first-sample flags stand before all
         let k = 8 + layout::bytes_for(4, flags, 0x1);
         return numbers::be4(m, p + k);
     }

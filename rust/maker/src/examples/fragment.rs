@@ -179,6 +179,11 @@ impl List {
             two_runs(t, 0x301);
             t.fragments[0].runs[1].offset_error = 1;
         });
+        // The second run's offset is right as an unsigned number, which it isn't: a judge that takes it for one says 22 at `mdat`.
+        self.refused("second run behind 2^31 bytes", 22, &trun(0, 1), |t| {
+            two_runs(t, 0x301);
+            first_run(t).samples[0].size = 0x8000_0000;
+        });
         self.refused("an empty last run a byte off", 22, &trun(0, 1), |t| {
             t.fragments[0].runs.push(Run { offset_error: -1, ..plain_run(0) });
         });

@@ -20,6 +20,10 @@ impl List {
         }
         self.track("15 bytes, free, long size 16", long(16)[..15].to_vec(), 2, 0);
         self.track("7 bytes after free", [short(8), vec![0; 7]].concat(), 2, 8);
+        // Offset plus size wraps to 7 here, which looks short.
+        let wraps = [short(8), long(most)].concat();
+        self.index("free, then long size 2^64 - 1", wraps.clone(), 4, 8);
+        self.track("free, then long size 2^64 - 1", wraps, 4, 8);
     }
 
     /// Sizes around the length of a header, and T cut at every byte.
