@@ -1,60 +1,59 @@
 -- Jobs that the contract of the index shuts out: for each there is an input on which what it answers is not permitted.
-use Prim.Native.Nat.{ℕ, zero, suc}
+use Prim.Native.Nat.{ℕ}
 use mathlib.Core.List.{List, [], _∷_, _++_}
-use mathlib.Core.Path.{_≡_, refl, sym, ap, _∙_}
-use native.Mathlib.Omega.{arith}
+use mathlib.Core.Path.{_≡_, refl, ap}
+use lib.Dec.{eqb}
 use lib.ListN.{length, set, getD}
-use Rattle.rules.specs.Bytes.{in4}
+use Rattle.rules.specs.Bytes.{in4, zeros, boxed}
 use Rattle.rules.specs.Computed.{computed}
-use Rattle.rules.specs.Examples.{free}
-use Rattle.rules.specs.Track.{Outcome, index, refused, indexOutcome}
-use Rattle.rules.specs.declared.Verdict.{Verdict}
-use Rattle.framing.specs.Permits.{Permits}
+use Rattle.rules.specs.Examples.{free, nines}
+use Rattle.rules.specs.Jobs.{Job, Shut, Dummy, writes-past, Shown}
+use Rattle.rules.specs.Track.{Outcome, refused, accepted, index, indexOutcome}
+use Rattle.rules.proofs.Jobs.{shut, left-past}
+use Rattle.rules.proofs.Refusals.{index-refusals}
 
--- a job answers a verdict and leaves a table, by the slice and the table that it is lent
-abbrev Job : Type 0
-Job = List ℕ → List ℕ → Outcome
+-- two boxes `free` in 16 bytes, one box in as many, and eight nines lent
+unfoldable two : List ℕ
+two = boxed free [] ++ boxed free []
 
--- on some input the contract does not permit what a job answers
-abbrev Shut : Job → Type 0
-Shut j = (s : List ℕ) × (t : List ℕ) × (Permits s t (j s t .verdict) (j s t .table) → ⊥)
+unfoldable one : List ℕ
+one = boxed free (zeros 8)
 
--- no bytes are accepted, with no box; eight bytes `free` are one box, and four nines lent are its index afterwards
-one : List ℕ
-one = in4 8 ++ in4 free
+unfoldable eight : List ℕ
+eight = nines ++ nines
 
-nines : List ℕ
-nines = 9 ∷ 9 ∷ 9 ∷ 9 ∷ []
+two-is : indexOutcome two eight ≡ accepted 2 0 (0 ∷ 8 ∷ free ∷ 0 ∷ 8 ∷ 8 ∷ free ∷ 0 ∷ []) eight
+unfolding computed two eight
+two-is = refl
 
-none-is : indexOutcome [] [] ≡ record { verdict = record { number = 0; track = 0; place = 0; count = 0; timescale = 0 }; table = [] }
-unfolding computed
-none-is = refl
-
-one-is : indexOutcome one nines ≡ record { verdict = record { number = 0; track = 0; place = 0; count = 1; timescale = 0 }; table = 0 ∷ 8 ∷ free ∷ 0 ∷ [] }
-unfolding computed one nines
+one-is : indexOutcome one eight ≡ accepted 1 0 (0 ∷ 16 ∷ free ∷ 0 ∷ []) eight
+unfolding computed one eight
 one-is = refl
 
--- refuses all, with any number that is no acceptance and any place
-pub refuses-all : (number place : List ℕ → List ℕ → ℕ) → ((s t : List ℕ) → number s t ≡ 0 → ⊥) → Shut (λ s t. refused (number s t) 0 (place s t) t)
-unfolding refused
-refuses-all number place never = ([], [], λ p. never [] [] (ap (λ (o : Outcome). o .verdict .number) (sym p ∙ none-is)))
+-- one byte is no box
+byte-is : indexOutcome (0 ∷ []) eight ≡ refused 2 0 0 eight
+unfolding computed eight
+byte-is = refl
 
--- never writes the table, whatever it answers
-pub never-writes : (answer : List ℕ → List ℕ → Verdict) → Shut (λ s t. record { verdict = answer s t; table = t })
-unfolding nines
-never-writes answer =
-    (one, nines, λ p. let e : _≡_ {A = ℕ} 9 0 = ap (λ (o : Outcome). getD (o .table) 0 0) (sym p ∙ one-is) in omega arith)
+shown : Shown indexOutcome
+unfolding computed two one eight
+shown =
+    record {
+      good = two;
+      other = one;
+      bad = 0 ∷ [];
+      lent = eight;
+      accepts = ap (λ (o : Outcome). o .verdict .number) two-is;
+      writes = ap (λ (o : Outcome). eqb (getD (o .table) 0 0) 9) two-is;
+      counts = ap (λ (o : Outcome). eqb (o .verdict .count) 2) one-is;
+      as-long = refl;
+      refuses = ap (λ (o : Outcome). eqb (o .verdict .number) 0) byte-is;
+    }
 
--- a fixed verdict, whatever it writes
-pub fixed-verdict : (v : Verdict) (table : List ℕ → List ℕ → List ℕ) → Shut (λ s t. record { verdict = v; table = table s t })
-fixed-verdict v table = by (v .count) refl
-  where
-    by : (n : ℕ) → v .count ≡ n → Shut (λ s t. record { verdict = v; table = table s t })
-    by zero e = (one, nines, λ p. let f : v .count ≡ 1 = ap (λ (o : Outcome). o .verdict .count) (sym p ∙ one-is) in omega arith)
-    by (suc n) e = ([], [], λ p. let f : v .count ≡ 0 = ap (λ (o : Outcome). o .verdict .count) (sym p ∙ none-is) in omega arith)
+-- each dummy answers what is not permitted
+pub dummies : (job : Job) → Dummy indexOutcome job → Shut indexOutcome job
+dummies = shut indexOutcome shown
 
--- writes one number past the boxes, and is right in everything else
-pub writes-past : (x : ℕ) → Shut (λ s t. record { verdict = indexOutcome s t .verdict; table = set (indexOutcome s t .table) (length (index s)) x })
-unfolding computed
-writes-past x =
-    ([], suc x ∷ [], λ p. let e : suc x ≡ x = ap (λ (o : Outcome). getD (o .table) 0 0) p in omega arith)
+-- one that writes one number past the index, and is right in everything else, is such a dummy
+pub past-index : (x : ℕ) → Dummy indexOutcome (λ s t. record { verdict = indexOutcome s t .verdict; table = set (indexOutcome s t .table) (length (index s)) x })
+past-index x = writes-past (λ s. length (index s)) (λ _. x) (λ s t. left-past (index-refusals s t .1)) (λ s t. refl)

@@ -6,8 +6,9 @@ ghost use lib.ListN.{length};
 ghost use lib.Seq.{sets};
 ghost use Rattle.rules.specs.Boxes.{forest};
 ghost use Rattle.rules.specs.Framing.{framing, framed, rows};
+ghost use Rattle.rules.specs.Jobs.{Permits};
+ghost use Rattle.rules.specs.Track.{indexOutcome};
 ghost use Rattle.framing.specs.Steps.{Placed, Read, brokenAt, passedTo, Writes};
-ghost use Rattle.framing.specs.Permits.{Permits};
 use rules::Framing;
 use rules::Inside;
 use rules::Look;
@@ -192,7 +193,7 @@ fn refusal(number: u64, place: u64) -> Verdict
 
 // The index job: rules 1 to 5, then room; four numbers a box, or no number.
 pub fn index(s: &[u8], t: &mut [u64]) -> Verdict
-    ensures { λ r. ⌜ Permits (now (s .entry)) (now (t .entry)) r (now (t .exit)) ⌝ }
+    ensures { λ r. ⌜ Permits indexOutcome (now (s .entry)) (now (t .entry)) r (now (t .exit)) ⌝ }
 {
     if BYTE_LIMIT < s.len() {
         return refusal(1, 0);

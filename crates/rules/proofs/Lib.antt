@@ -5,6 +5,8 @@ pub mod Walk
 pub mod Samples
 pub mod Stuck
 pub mod Tiling
+pub mod Misframed
+pub mod Jobs
 pub mod Refusals
 pub mod Sound
 pub mod Boundaries

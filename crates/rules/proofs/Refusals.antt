@@ -1,30 +1,27 @@
 -- The numbers of refusals, rule by rule: none is 0, a track's own are at most 22, and those from 19 on are about the timing of its
--- fragments. So a verdict of number 0 is an acceptance, and one of 27 or 28 is about tracks that are accepted singly.
+-- fragments. So a verdict of number 0 is an acceptance, and one of 27 or 28 is about tracks that are accepted singly. At the end, how each
+-- of the three jobs may answer.
 use mathlib.Core.Path.{_≡_, refl, subst}
 use mathlib.Core.Bool.{Bool, true, false}
 use mathlib.Core.List.{List, [], _∷_}
-use Prim.Native.Nat.{ℕ, zero, suc, _+_, _-_, _≤_, _<_}
+use Prim.Native.Nat.{ℕ, _+_, _≤_, _<_}
 use native.Mathlib.Omega.{arith}
 use lib.ListN.{length, drop}
-use lib.Dec.{leb, eqb, leb→le}
+use lib.Dec.{leb, ltb, eqb, leb→le}
+use borrow.Author.Tests.{ltb-true, ltb-false}
 use Rattle.numbers.specs.Numbers.{when}
 use Rattle.rules.specs.Kinds.{edts, elst}
-use Rattle.rules.specs.Limits.{boxLimit}
-use Rattle.rules.specs.Rules.{_then_, must, ofTrack}
-use Rattle.rules.specs.Boxes.{Box, Forest, end, bad, node, part, look, inside, within, grow, forest, boxes, kids, child, seen, onSeen}
-use Rattle.rules.specs.Framing.{onFraming, rule5, framing, framingRule, rules2to5}
+use Rattle.rules.specs.Limits.{byteLimit}
+use Rattle.rules.specs.Rules.{_then_, must, ofTrack, onRule}
+use Rattle.rules.specs.Boxes.{Box, boxes, kids, child, seen, onSeen}
+use Rattle.rules.specs.Framing.{onFraming, framed, framingRule, rules2to5}
 use Rattle.rules.specs.Order.{step6, onStepped, orderFrom, rule6}
 use Rattle.rules.specs.Header.{oneOf, atMostOneOf, someOf, one, atMostOne, rule7moov, rule7trak, rule7edts, rule7mdia, rule7minf, rule7dinf, rule7stbl, rule7mvex, rule7, rule8, rule9, rule10, rule11, rule12, rule13, rules7to13}
 use Rattle.rules.specs.Fragment.{rule14, rule15runs, rule15, rule16runs, rule16, rule17, rule18, shape, rule19, rule20, rule21, rule22runs, rule22, timing}
-use Rattle.rules.specs.Track.{rule1, rulesOfHeader, headerOf, fragments, shapeAt, timingAt, endAt, rules14to22, ruling}
+use Rattle.rules.specs.Track.{rule1, rulesOfHeader, headerOf, fragments, shapeAt, timingAt, endAt, rules14to22, ruling, fragmentCount, timescale, boundaries, refused, accepted, roomFor, index, indexOutcome, trackOutcome}
 use Rattle.rules.specs.Bundle.{Records, none, wrong, track, rule24From, rule24, tracks, records}
-use Rattle.rules.specs.Set.{rule25, rule26, rule27, rule28From, rule28, agrees, rulings, agree, track0, setRuling, bundleRuling}
-use Rattle.rules.specs.declared.Path.{Path}
-use Rattle.rules.specs.declared.Path.the-variants.{Top}
-use Rattle.rules.specs.declared.Inside.{Inside}
-use Rattle.rules.specs.declared.Inside.the-variants.{Leaf, Holds as Within}
-use Rattle.rules.specs.declared.Look.{Look}
-use Rattle.rules.specs.declared.Look.the-variants.{Nothing, Short, Small, Beyond, Header as Framed-header}
+use Rattle.rules.specs.Set.{rule25, rule26, rule27, rule28From, rule28, agrees, rulings, agree, track0, setRuling, bundleRuling, setOutcome}
+use Rattle.rules.specs.Jobs.{Answered, is-accepted, is-refused, no-room}
 use Rattle.rules.specs.declared.Framing.{Framing}
 use Rattle.rules.specs.declared.Framing.the-variants.{Framed, Misframed}
 use Rattle.rules.specs.declared.Seen.{Seen}
@@ -38,7 +35,8 @@ use Rattle.rules.specs.declared.Rule.the-variants.{Holds, Breaks}
 use Rattle.rules.specs.declared.Places.{Places}
 use Rattle.rules.specs.declared.Defaults.{Defaults}
 use Rattle.rules.specs.declared.Header.{Header}
-use Rattle.rules.proofs.Forest.{sprout}
+use Rattle.rules.proofs.Jobs.{zero-accepts}
+use Rattle.rules.proofs.Misframed.{From2To5, from-2-to-5}
 
 -- a rule that, where it breaks, gives a number from a lowest to a highest
 pub record Numbered (low top : ℕ) (r : Rule) : Type 0 where
@@ -164,49 +162,10 @@ n-fragments s h k prev (x ∷ xs) =
     n-then _ _ (wider 14 18 14 22 _ (omega arith) (omega arith) (n-shape _ _ _))
     (n-then _ _ (wider 19 22 14 22 _ (omega arith) (omega arith) (n-timing _ _ _ _ _ _ _)) (n-fragments s h (k + 1) (endAt s h x) xs))
 
--- the framing: a broken header hands on 2, 3 or 4
-abbrev Sound : Forest → Type 0
-Sound end = Unit {0}
-Sound (bad n p) = (2 ≤ n) × (n ≤ 5)
-Sound (node x i r) = Sound i × Sound r
-
-grown : (f : ℕ) (p : Path) (s : List ℕ) (at : ℕ) → Sound (grow f p s at)
-unfolding grow
-grown zero p s at = tt
-grown (suc f) p s at = go (look s at) (λ q t a. grown f q t a)
-  where
-    inner : (i : Inside) (t : List ℕ) → ((q : Path) (t : List ℕ) (a : ℕ) → Sound (grow f q t a)) → Sound (within (λ q t. grow f q t 0) i t)
-    inner Leaf t g = tt
-    inner (Within q) t g = g q t 0
-
-    go : (l : Look) → ((q : Path) (t : List ℕ) (a : ℕ) → Sound (grow f q t a))
-        → Sound (sprout (λ q t. grow f q t 0) (grow f p s) p s at l)
-    go Nothing g = tt
-    go Short g = omega arith
-    go Small g = omega arith
-    go Beyond g = omega arith
-    go (Framed-header h z k) g = (inner (inside p k) (part s (at + h) (z - h)) g, g p s (at + z))
-
-n-rule5 : (n place : ℕ) (r : Framing) → Counts 2 5 (framingRule r) → Counts 2 5 (framingRule (rule5 n place r))
-unfolding rule5
-n-rule5 n place r h = go (leb boxLimit n)
-  where
-    go : (b : Bool) → Counts 2 5 (framingRule (when b (Misframed 5 place) r))
-    go true = omega arith
-    go false = h
-
-n-framing : (t : Forest) (base n : ℕ) → Sound t → Counts 2 5 (framingRule (framing t base n))
-unfolding framing
-n-framing end base n h = tt
-n-framing (bad k p) base n h = n-rule5 n (base + p) (Misframed k (base + p)) h
-n-framing (node x i r) base n h =
-    n-rule5 n (base + x .at) _
-    (go (framing i (base + x .at + x .head) (n + 1)) (n-framing i (base + x .at + x .head) (n + 1) (h .0)) (λ m. n-framing r base m (h .1)))
-  where
-    go : (y : Framing) → Counts 2 5 (framingRule y) → ((m : ℕ) → Counts 2 5 (framingRule (framing r base m)))
-        → Counts 2 5 (framingRule (onFraming y (λ m. framing r base m) (λ k p. Misframed k p)))
-    go (Framed m) c f = f m
-    go (Misframed k p) c f = c
+-- the framing
+n-framing : (f : Framing) → From2To5 f → Counts 2 5 (framingRule f)
+n-framing (Framed n) h = tt
+n-framing (Misframed k p) h = h
 
 -- the order
 n-order : (len : ℕ) (g : Stage) (xs : List Box) → Counts 6 6 (orderFrom len g xs)
@@ -228,8 +187,7 @@ unfolding rule1
 n-length n = n-must _ 1 _ (omega arith) (omega arith)
 
 n-framed : (s : List ℕ) → Numbered 2 5 (rules2to5 s)
-unfolding forest
-n-framed s = of-counts 2 5 (rules2to5 s) (n-framing (forest Top s 0) 0 0 (grown (length s - 0) Top s 0))
+n-framed s = of-counts 2 5 (rules2to5 s) (n-framing (framed s) (from-2-to-5 s))
 
 n-ordered : (s : List ℕ) → Numbered 6 6 (rule6 s)
 unfolding rule6
@@ -315,3 +273,55 @@ refused-as-set b n k p l h =
     let e₂ = passes 24 24 (rule24 b) (setRuling (tracks b)) n k p (n-records b) (λ d u. omega (arith, l, u)) (e₁ .1) in
     let e₃ = passes 1 22 (rulings 0 (tracks b)) rest n k p (n-rulings 0 (tracks b)) (λ d u. omega (arith, l, u)) (e₂ .1) in
     (e₃ .0, e₂ .1)
+
+-- no rule is left but room: the acceptance, or 23
+by-room : (top count scale : ℕ) (numbers t : List ℕ) → Answered top count scale numbers t (roomFor count scale numbers t)
+unfolding roomFor
+by-room top count scale numbers t = go (ltb (length t) (length numbers)) refl
+  where
+    go : (b : Bool) → ltb (length t) (length numbers) ≡ b
+        → Answered top count scale numbers t (when b (refused 23 0 0 t) (accepted count scale numbers t))
+    go true e = no-room (ltb-true (length t) (length numbers) e) refl
+    go false e = is-accepted (ltb-false (length t) (length numbers) e) refl
+
+-- a rule and then room
+by-rule : (top count scale : ℕ) (numbers t : List ℕ) (r : Rule) → Numbered 1 top r
+    → Answered top count scale numbers t (onRule r (λ _. roomFor count scale numbers t) (λ n k p. refused n k p t))
+by-rule top count scale numbers t Holds h = by-room top count scale numbers t
+by-rule top count scale numbers t (Breaks n k p) h = let y = h .told n k p refl in is-refused n k p (y .0) (y .1) refl
+
+-- the index job: the acceptance with the index, a refusal from 1 to 5, or 23
+pub index-refusals : (s t : List ℕ) → (n : ℕ) × Answered 5 n 0 (index s) t (indexOutcome s t)
+unfolding indexOutcome rule1 must
+index-refusals s t = go (leb (length s) byteLimit) (framed s) (from-2-to-5 s)
+  where
+    go : (b : Bool) (f : Framing) → From2To5 f
+        → (n : ℕ)
+        × Answered 5 n 0 (index s) t
+        (onRule (must b 1 0) (λ _. onFraming f (λ n. roomFor n 0 (index s) t) (λ k p. refused k 0 p t)) (λ k _ p. refused k 0 p t))
+    go true (Framed n) h = (n, by-room 5 n 0 (index s) t)
+    go true (Misframed k p) h = (0, is-refused k 0 p (omega arith) (h .1) refl)
+    go false f h = (0, is-refused 1 0 0 (omega arith) (omega arith) refl)
+
+-- the track job: the acceptance with the boundaries, a refusal from 1 to 22, or 23
+pub track-refusals : (s t : List ℕ) → Answered 22 (fragmentCount s) (timescale s) (boundaries s) t (trackOutcome s t)
+unfolding trackOutcome
+track-refusals s t = by-rule 22 (fragmentCount s) (timescale s) (boundaries s) t (ruling s) (n-ruling s)
+
+-- the set job: the acceptance with the boundaries of track 0, a refusal from 1 to 28, or 23
+pub set-refusals : (b t : List ℕ)
+    → Answered 28 (fragmentCount (track0 (tracks b))) (timescale (track0 (tracks b))) (boundaries (track0 (tracks b))) t (setOutcome b t)
+unfolding setOutcome
+set-refusals b t = by-rule 28 _ _ _ t (bundleRuling b) (refusals-1-to-28 b)
+
+-- where an index's, a track's or a set's number is 0, the outcome is its acceptance
+pub index-at-0 : (s t : List ℕ) → indexOutcome s t .verdict .number ≡ 0 → (n : ℕ) × (indexOutcome s t ≡ accepted n 0 (index s) t)
+index-at-0 s t z = let h = index-refusals s t in (h .0, zero-accepts (h .1) z)
+
+pub track-at-0 : (s t : List ℕ) → trackOutcome s t .verdict .number ≡ 0
+    → trackOutcome s t ≡ accepted (fragmentCount s) (timescale s) (boundaries s) t
+track-at-0 s t z = zero-accepts (track-refusals s t) z
+
+pub set-at-0 : (b t : List ℕ) → setOutcome b t .verdict .number ≡ 0
+    → setOutcome b t ≡ accepted (fragmentCount (track0 (tracks b))) (timescale (track0 (tracks b))) (boundaries (track0 (tracks b))) t
+set-at-0 b t z = zero-accepts (set-refusals b t) z

@@ -9,6 +9,7 @@ pub mod Fragment
 pub mod Track
 pub mod Bundle
 pub mod Set
+pub mod Jobs
 pub mod Player
 pub mod Plans
 pub mod Bytes

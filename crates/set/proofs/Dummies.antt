@@ -3,14 +3,16 @@ use Prim.Native.Nat.{ℕ}
 use mathlib.Core.List.{List, [], _∷_, _++_}
 use mathlib.Core.Path.{_≡_, refl, ap}
 use lib.Dec.{eqb}
-use lib.ListN.{length, getD}
+use lib.ListN.{length, set, getD}
 use Rattle.rules.specs.Bytes.{in4, trackT}
 use Rattle.rules.specs.Computed.{computed}
 use Rattle.rules.specs.Examples.{nines, refusal, acceptance}
-use Rattle.rules.specs.Track.{Outcome, accepted}
-use Rattle.rules.specs.Set.{setOutcome}
-use Rattle.track.specs.Jobs.{Job, Shut, Dummy, Shown}
-use Rattle.track.proofs.Jobs.{shut}
+use Rattle.rules.specs.Bundle.{tracks}
+use Rattle.rules.specs.Jobs.{Job, Shut, Dummy, writes-past, Shown}
+use Rattle.rules.specs.Track.{Outcome, accepted, boundaries}
+use Rattle.rules.specs.Set.{track0, setOutcome}
+use Rattle.rules.proofs.Jobs.{shut, left-past}
+use Rattle.rules.proofs.Refusals.{set-refusals}
 use Rattle.track.proofs.Dummies.{half}
 
 -- a track as a record, and a bundle of one track twice
@@ -48,5 +50,11 @@ shown =
     }
 
 -- each dummy answers what is not permitted
-pub dummies : (job : Job) → Dummy job → Shut setOutcome job
+pub dummies : (job : Job) → Dummy setOutcome job → Shut setOutcome job
 dummies = shut setOutcome shown
+
+-- one that writes one number past the boundaries of track 0, and is right in everything else, is such a dummy
+pub past-boundaries : (x : ℕ)
+    → Dummy setOutcome
+    (λ b t. record { verdict = setOutcome b t .verdict; table = set (setOutcome b t .table) (length (boundaries (track0 (tracks b)))) x })
+past-boundaries x = writes-past (λ b. length (boundaries (track0 (tracks b)))) (λ _. x) (λ b t. left-past (set-refusals b t)) (λ b t. refl)

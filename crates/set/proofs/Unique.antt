@@ -2,10 +2,10 @@
 use Prim.Native.Nat.{ℕ}
 use mathlib.Core.List.{List}
 use mathlib.Core.Path.{_≡_}
+use Rattle.rules.specs.Jobs.{Permits}
 use Rattle.rules.specs.Set.{setOutcome}
 use Rattle.rules.specs.declared.Verdict.{Verdict}
-use Rattle.track.specs.Jobs.{Permits}
-use Rattle.track.proofs.Jobs as jobs
+use Rattle.rules.proofs.Jobs as jobs
 
 pub unique : (b t : List ℕ) (v w : Verdict) (u x : List ℕ) → Permits setOutcome b t v u → Permits setOutcome b t w x → (v ≡ w) × (u ≡ x)
 unique = jobs.unique setOutcome

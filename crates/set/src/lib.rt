@@ -6,6 +6,7 @@ ghost use Rattle.rules.specs.Limits.{byteLimit};
 ghost use Rattle.rules.specs.Rules.{_then_, ofTrack};
 ghost use Rattle.rules.specs.Bundle.{rule24, tracks};
 ghost use Rattle.rules.specs.Set.{agrees, setOutcome};
+ghost use Rattle.rules.specs.Jobs.{Permits};
 ghost use Rattle.rules.specs.declared.Rule.the-variants.{Holds};
 ghost use Rattle.track.specs.Says.{Known, Kept};
 ghost use Rattle.set.specs.Says.{allOf};
@@ -107,7 +108,7 @@ fn others(b: &[u8], from: usize, s0: &[u8], starts0: &[u64], f0: Facts) -> Rule
 // The tracks of a framed bundle, then room.
 fn members(b: &[u8], t: &mut [u64]) -> Verdict
     requires { ⌜ (length (now b) ≤ byteLimit) × (rule24 (now b) ≡ Holds) × (1 ≤ length (tracks (now b))) ⌝ }
-    ensures { λ r. ⌜ record { verdict = r; table = now (t .exit) } ≡ setOutcome (now (b .entry)) (now (t .entry)) ⌝ }
+    ensures { λ r. ⌜ Permits setOutcome (now (b .entry)) (now (t .entry)) r (now (t .exit)) ⌝ }
 {
     let mark = bundle::record_at(b, 0);
     let Mark::Track(n) = mark else {
@@ -132,7 +133,7 @@ fn members(b: &[u8], t: &mut [u64]) -> Verdict
 
 // The set job: the bundle framed whole, every track, every track beside track 0, then room, and the boundaries.
 pub fn check(b: &[u8], t: &mut [u64]) -> Verdict
-    ensures { λ r. ⌜ record { verdict = r; table = now (t .exit) } ≡ setOutcome (now (b .entry)) (now (t .entry)) ⌝ }
+    ensures { λ r. ⌜ Permits setOutcome (now (b .entry)) (now (t .entry)) r (now (t .exit)) ⌝ }
 {
     if BYTE_LIMIT < b.len() {
         return track::refused(1, 0, 0);

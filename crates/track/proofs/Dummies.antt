@@ -3,13 +3,14 @@ use Prim.Native.Nat.{ℕ}
 use mathlib.Core.List.{List, [], _∷_, _++_}
 use mathlib.Core.Path.{_≡_, refl, ap}
 use lib.Dec.{eqb}
-use lib.ListN.{getD}
+use lib.ListN.{length, set, getD}
 use Rattle.rules.specs.Bytes.{zeros, boxed, header, fragment, trackT}
 use Rattle.rules.specs.Computed.{computed}
 use Rattle.rules.specs.Examples.{free, nines, refusal, acceptance}
-use Rattle.rules.specs.Track.{Outcome, accepted, trackOutcome}
-use Rattle.track.specs.Jobs.{Job, Shut, Dummy, Shown}
-use Rattle.track.proofs.Jobs.{shut}
+use Rattle.rules.specs.Jobs.{Job, Shut, Dummy, writes-past, Shown}
+use Rattle.rules.specs.Track.{Outcome, accepted, boundaries, trackOutcome}
+use Rattle.rules.proofs.Jobs.{shut, left-past}
+use Rattle.rules.proofs.Refusals.{track-refusals}
 
 -- T's first fragment alone, with a `free` box as long as the second
 unfoldable pub half : List ℕ
@@ -43,5 +44,10 @@ shown =
     }
 
 -- each dummy answers what is not permitted
-pub dummies : (job : Job) → Dummy job → Shut trackOutcome job
+pub dummies : (job : Job) → Dummy trackOutcome job → Shut trackOutcome job
 dummies = shut trackOutcome shown
+
+-- one that writes one number past the boundaries, and is right in everything else, is such a dummy
+pub past-boundaries : (x : ℕ)
+    → Dummy trackOutcome (λ s t. record { verdict = trackOutcome s t .verdict; table = set (trackOutcome s t .table) (length (boundaries s)) x })
+past-boundaries x = writes-past (λ s. length (boundaries s)) (λ _. x) (λ s t. left-past (track-refusals s t)) (λ s t. refl)

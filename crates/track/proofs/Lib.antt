@@ -3,6 +3,5 @@ pub mod Fragments
 pub mod Judging
 pub mod Stages
 pub mod Table
-pub mod Jobs
 pub mod Unique
 pub mod Dummies

@@ -8,6 +8,7 @@ ghost use Rattle.rules.specs.Rules.{_then_};
 ghost use Rattle.rules.specs.Boxes.{sizeOf};
 ghost use Rattle.rules.specs.Order.{rule6};
 ghost use Rattle.rules.specs.Track.{moovAt, headerOf, fragments, fragmentCount, rules14to22, rulesOfHeader, ruling, timescale, boundaries, roomFor, trackOutcome};
+ghost use Rattle.rules.specs.Jobs.{Permits};
 ghost use Rattle.track.specs.Says.{lastEnd, saysAt, saysWalk, headed, Known, Kept, saysJudged};
 use boxes::Next;
 use boxes::kinds::MOOF;
@@ -254,7 +255,7 @@ pub fn accept(s: &[u8], f: Facts, starts: &[u64], t: &mut [u64]) -> Verdict
 
 // The track job: every rule, then room, and the boundaries.
 pub fn track(s: &[u8], t: &mut [u64]) -> Verdict
-    ensures { λ r. ⌜ record { verdict = r; table = now (t .exit) } ≡ trackOutcome (now (s .entry)) (now (t .entry)) ⌝ }
+    ensures { λ r. ⌜ Permits trackOutcome (now (s .entry)) (now (t .entry)) r (now (t .exit)) ⌝ }
 {
     let mut starts = [0u64; START_ROOM];
     match judge(s, &mut starts) {

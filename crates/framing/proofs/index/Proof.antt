@@ -1,4 +1,5 @@
 -- `framing::index` meets its contract. Assumes nothing.
+use mathlib.Core.Path.{sym}
 use native.Mathlib.Omega.{arith}
 use Rattle.framing.proofs.Outcome.{too-long, misframed, long, no-room, good}
 use borrow.Author.Needs.{needs}
@@ -6,19 +7,19 @@ use Rattle.framing.proofs.index.Statement.{statement}
 use Rattle.framing.proofs.index.Tie as tie
 
 returns : tie.Need-returns
-returns c = too-long _ _ _ (c .before .if1 .taken) (c .refusal .ensures)
+returns c = sym (too-long _ _ _ (c .before .if1 .taken) (c .refusal .ensures))
 
 returns-2 : tie.Need-returns-2
-returns-2 c = no-room _ _ (c .before .before .before .before .before .before .if1 .left) (c .before .before .before .before .before .frame .ensures) (c .before .before .before .boxes .given .1) _ (c .before .if2 .taken) (c .refusal3 .ensures)
+returns-2 c = sym (no-room _ _ (c .before .before .before .before .before .before .if1 .left) (c .before .before .before .before .before .frame .ensures) (c .before .before .before .boxes .given .1) _ (c .before .if2 .taken) (c .refusal3 .ensures))
 
 write-run-requires : tie.Need-write-run-requires
 write-run-requires c κs = let a = c .before .before .before .before .before .before .before .before .before .args in omega (arith, long (a .s .now) (a .t .now) (c .before .before .before .before .before .before .if1 .left) (c .before .before .before .before .before .frame .ensures) (c .before .before .before .boxes .given .1))
 
 returns-3 : tie.Need-returns-3
-returns-3 c = misframed _ _ _ (c .before .before .before .before .before .if1 .left) (c .before .before .before .before .frame .ensures) (c .before .before .number .given .1) (c .refusal2 .ensures)
+returns-3 c = sym (misframed _ _ _ (c .before .before .before .before .before .if1 .left) (c .before .before .before .before .frame .ensures) (c .before .before .number .given .1) (c .refusal2 .ensures))
 
 returns-4 : tie.Need-returns-4
-returns-4 c = good _ _ (c .before .before .before .before .before .before .before .before .before .if1 .left) (c .before .before .before .before .before .before .before .before .frame .ensures) (c .before .before .before .before .before .before .boxes .given .1) _ (c .before .before .before .before .if2 .left) (c .before .before .write-run .ensures .1)
+returns-4 c = sym (good _ _ (c .before .before .before .before .before .before .before .before .before .if1 .left) (c .before .before .before .before .before .before .before .before .frame .ensures) (c .before .before .before .before .before .before .boxes .given .1) _ (c .before .before .before .before .if2 .left) (c .before .before .write-run .ensures .1))
 
 pub index-spec : {M : Type 1} → statement M
 index-spec =
