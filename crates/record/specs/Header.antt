@@ -1,5 +1,5 @@
 -- The front of a record, and a record, as bytes.
-use Prim.Native.Nat.{ℕ, _/_, _%_, _^_, _<_}
+use Prim.Native.Nat.{ℕ, _+_, _/_, _%_, _^_, _<_}
 use mathlib.Core.List.{List, [], _∷_, _++_}
 use lib.ListN.{length}
 
@@ -20,3 +20,8 @@ bundleOf (s ∷ ss) = recordOf s ++ bundleOf ss
 abbrev pub Lengthed : List (List ℕ) → Type 0
 Lengthed [] = Unit {0}
 Lengthed (s ∷ ss) = (length s < 2 ^ 32) × Lengthed ss
+
+-- the bytes of a bundle whose tracks have those lengths: for each six and its own
+unfoldable pub bundleLength : List ℕ → ℕ
+bundleLength [] = 0
+bundleLength (n ∷ ns) = 6 + n + bundleLength ns
