@@ -6,9 +6,11 @@
 use libc::SEEK_SET;
 use libc::STDERR_FILENO;
 use libc::STDOUT_FILENO;
-ghost use Prim.Native.Nat.{_+_, _≤_};
-ghost use lib.ListN.{length};
-ghost use Rattle.pack.specs.Sizes.{Counted, Readied};
+ghost use Prim.Native.Nat.{_+_, _≤_, _<_};
+ghost use mathlib.Core.Path.{_≡_};
+ghost use lib.ListN.{length, take, getD};
+ghost use Rattle.record.specs.Header.{headerOf, bundleLength};
+ghost use Rattle.pack.specs.Sizes.{Counted, Readied, Fits, Reaches, Packed};
 
 // The bytes that a bundle may have.
 const LIMIT: u64 = 1073741824;
@@ -24,6 +26,12 @@ enum Size {
 enum File {
     Ready(i32, u32),
     Refused,
+}
+
+// Where writing the bundle has come to: so many of its bytes are written, or it can't be written on.
+enum Place {
+    At(u64),
+    Stopped,
 }
 
 // Counts the bytes of a file that begins at a place of the bundle.
@@ -97,6 +105,7 @@ fn prepare(i: usize, from: u64, buf: &mut [u8]) -> File
 // Makes the files of the arguments 1 to so many ready, with their descriptors and bytes; answers whether all are.
 fn open_all(files: usize, fds: &mut [i32], sizes: &mut [u32], buf: &mut [u8]) -> bool
     requires { ⌜ (files ≤ length (now fds)) × (files ≤ length (now sizes)) ⌝ }
+    ensures { λ r. ⌜ Fits r files (now (sizes .exit)) ⌝ }
 {
     let mut end = 0;
     let mut k = 0;
@@ -152,48 +161,81 @@ fn pass_some(fd: i32, most: u64, buf: &mut [u8]) -> u64
     pass(fd, &mut buf[..k]) as u64
 }
 
-// Copies so many bytes of a file to standard output; answers whether all were copied.
-fn copy(fd: i32, size: u32, buf: &mut [u8]) -> bool {
-    let mut left = size as u64;
-    while 0 < left {
-        let n = pass_some(fd, left, buf);
-        if n == 0 {
-            return false;
-        }
-        left -= n;
-    }
-    true
-}
-
-// Writes the record of a file; answers whether the whole of it was written.
-fn write_record(fd: i32, size: u32, buf: &mut [u8]) -> bool {
-    let head = record::header(size);
-    if !io::write_all(STDOUT_FILENO, &head) {
-        os::fail(b"standard output");
-        return false;
-    }
-    copy(fd, size, buf)
-}
-
-// Writes the records of the first so many files, up to one that can't be written whole.
-fn write_records(files: usize, fds: &[i32], sizes: &[u32], buf: &mut [u8])
-    requires { ⌜ (files ≤ length (now fds)) × (files ≤ length (now sizes)) ⌝ }
+// Copies so many bytes of a file to standard output, from a place of the bundle on; answers where that ends.
+fn copy(fd: i32, at: u64, size: u32, buf: &mut [u8]) -> Place
+    requires { ⌜ at ≤ 1073741830 ⌝ }
+    ensures { λ r. ⌜ Reaches r (at + size) ⌝ }
 {
+    let end = at + size as u64;
+    let mut here = at;
+    while here < end {
+        let n = pass_some(fd, end - here, buf);
+        if n == 0 {
+            return Place::Stopped;
+        }
+        here += n;
+    }
+    Place::At(here)
+}
+
+// The six bytes in front of file k.
+fn head(sizes: &[u32], k: usize) -> [u8; 6]
+    requires { ⌜ k < length (now sizes) ⌝ }
+    ensures { λ r. ⌜ r ≡ headerOf (getD (now (sizes .entry)) k 0) ⌝ }
+{
+    record::header(sizes[k])
+}
+
+// Writes six bytes at a place of the bundle, which have to be those in front of file k; answers where they end.
+fn put_head(six: &[u8; 6], sizes: &[u32], k: usize, at: u64) -> Place
+    requires { ⌜ (now six ≡ headerOf (getD (now sizes) k 0)) × (at ≡ bundleLength (take k (now sizes))) × (at ≤ 1073741824) ⌝ }
+    ensures { λ r. ⌜ Reaches r (at + 6) ⌝ }
+{
+    if !io::write_all(STDOUT_FILENO, six) {
+        os::fail(b"standard output");
+        return Place::Stopped;
+    }
+    Place::At(at + 6)
+}
+
+// Writes the record of file k at a place of the bundle; answers where it ends.
+fn write_record(fd: i32, sizes: &[u32], k: usize, at: u64, buf: &mut [u8]) -> Place
+    requires { ⌜ (k < length (now sizes)) × (at ≡ bundleLength (take k (now sizes))) × (at ≤ 1073741824) ⌝ }
+    ensures { λ r. ⌜ Reaches r (bundleLength (take (k + 1) (now (sizes .entry)))) ⌝ }
+{
+    let six = head(sizes, k);
+    let Place::At(from) = put_head(&six, sizes, k, at) else {
+        return Place::Stopped;
+    };
+    copy(fd, from, sizes[k], buf)
+}
+
+// Writes the records of the first so many files, up to one that can't be written whole; answers where they end.
+fn write_records(files: usize, fds: &[i32], sizes: &[u32], buf: &mut [u8]) -> Place
+    requires { ⌜ (files ≤ length (now fds)) × (files ≤ length (now sizes)) × (bundleLength (take files (now sizes)) ≤ 1073741824) ⌝ }
+    ensures { λ r. ⌜ Reaches r (bundleLength (take files (now (sizes .entry)))) ⌝ }
+{
+    let mut at = 0;
     let mut k = 0;
     while k < files {
-        if !write_record(fds[k], sizes[k], buf) {
-            return;
-        }
+        let Place::At(end) = write_record(fds[k], sizes, k, at, buf) else {
+            return Place::Stopped;
+        };
+        at = end;
         k += 1;
     }
+    Place::At(at)
 }
 
-// Makes 1 to 16 files ready, then writes their records.
-fn pack(files: usize, fds: &mut [i32], sizes: &mut [u32], buf: &mut [u8])
+// Makes 1 to 16 files ready, then writes their records; answers the bytes of the bundle, where it is written whole.
+fn pack(files: usize, fds: &mut [i32], sizes: &mut [u32], buf: &mut [u8]) -> Place
     requires { ⌜ (files ≤ length (now fds)) × (files ≤ length (now sizes)) ⌝ }
+    ensures { λ r. ⌜ Packed r files (now (sizes .exit)) ⌝ }
 {
     if open_all(files, fds, sizes, buf) {
-        write_records(files, fds, sizes, buf);
+        write_records(files, fds, sizes, buf)
+    } else {
+        Place::Stopped
     }
 }
 

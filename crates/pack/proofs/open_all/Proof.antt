@@ -1,21 +1,26 @@
--- `pack::open_all` is safe and ends. The invariant: the bundle so far is within the limit. Assumes nothing.
-use Prim.Native.Nat.{_+_, _-_, _≤_}
-use mathlib.Core.Path.{_≡_}
-use lib.ListN.{length}
+-- `pack::open_all` meets its contract. The invariant: the bundle of the sizes so far ends here, within the limit. Assumes nothing.
+use Prim.Native.Nat.{ℕ, _+_, _-_, _≤_}
+use mathlib.Core.Path.{_≡_, refl, ap}
+use lib.ListN.{length, take}
 use native.Mathlib.Omega.{arith}
+use Rattle.record.specs.Header.{bundleLength}
+use Rattle.record.proofs.Lengths.{stored-length}
 use Rattle.pack.proofs.Sizes.{readied}
 use borrow.Author.Needs.{needs}
 use Rattle.pack.proofs.open_all.Statement.{statement}
 use Rattle.pack.proofs.open_all.Tie as tie
 
 abbrev Inv-loop : tie.InvT-loop
-Inv-loop files fds₀ sizes₀ buf₀ end₀ k₀ fds sizes buf end k = (k ≤ files) × (end ≤ 1073741824) × (length fds ≡ length fds₀) × (length sizes ≡ length sizes₀) × (length buf ≡ length buf₀)
+Inv-loop files fds₀ sizes₀ buf₀ end₀ k₀ fds sizes buf end k =
+    (k ≤ files) × (end ≤ 1073741824) × (length fds ≡ length fds₀) × (length sizes ≡ length sizes₀) × (length buf ≡ length buf₀)
+    × (end ≡ bundleLength (take k sizes))
 
 abbrev μ-loop : tie.MeasureT-loop
 μ-loop files fds₀ sizes₀ buf₀ end₀ k₀ fds sizes buf end k = files - k
 
 loop-holds : tie.Need-loop-holds Inv-loop μ-loop
-loop-holds c = search needs
+unfolding bundleLength
+loop-holds c = (search needs, search needs, search needs, search needs, search needs, refl)
 
 add-from : tie.Need-add-from Inv-loop μ-loop
 add-from c = search needs
@@ -75,7 +80,9 @@ loop-again : tie.Need-loop-again Inv-loop μ-loop
 loop-again c =
     let f = c .before in
     let l = f .before .before .before .before .before .before .before .loop in
-    (search needs, readied (l .end + 6) (f .fd .given .1) (f .before .before .before .before .prepare .ensures), search needs, search needs, search needs)
+    let within = readied (l .end + 6) (f .fd .given .1) (f .before .before .before .before .prepare .ensures) in
+    let grown = stored-length (l .sizes) (l .k) (f .fd .given .0 .1 .0) (omega arith) in
+    (search needs, within, search needs, search needs, search needs, omega (arith, grown))
 
 same-length-4 : tie.Need-same-length-4 Inv-loop μ-loop
 same-length-4 c = search needs
@@ -87,7 +94,11 @@ same-length-6 : tie.Need-same-length-6 Inv-loop μ-loop
 same-length-6 c = search needs
 
 returns-2 : tie.Need-returns-2 Inv-loop μ-loop
-returns-2 c = search needs
+returns-2 c =
+    let l = c .before .loop in
+    let f = c .before .before .before .before .args .files in
+    let e : l .k ≡ f = omega arith in
+    omega (arith, ap (λ (n : ℕ). bundleLength (take n (l .sizes))) e)
 
 pub open-all-spec : {M : Type 1} → statement M
 open-all-spec =
