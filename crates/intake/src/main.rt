@@ -2,6 +2,12 @@
 // refused line.
 use libc::STDIN_FILENO;
 use libc::STDOUT_FILENO;
+use printed::INPUT_LIMIT;
+use printed::TEXT_ROOM;
+ghost use mathlib.Core.Path.{_≡_};
+ghost use Prim.Native.Nat.{_<_};
+ghost use lib.ListN.{length};
+ghost use Rattle.printed.specs.Printed.{inputLimit, printed};
 ghost use Rattle.intake.specs.Held.{Within};
 
 // What was read of the input: so many bytes, now at the start of the buffer, or it can't be read.
@@ -10,8 +16,9 @@ enum Input {
     Unread,
 }
 
-// Reads until the buffer is full or the input ends, however few bytes a read brings.
+// Reads until the buffer is full or the input ends, however few bytes a read brings. There is room to notice more than a set may have.
 fn read_all(buf: &mut [u8]) -> Input
+    requires { ⌜ inputLimit < length (now buf) ⌝ }
     ensures { λ r. ⌜ Within r (now (buf .exit)) ⌝ }
 {
     let mut done = 0;
@@ -29,52 +36,28 @@ fn read_all(buf: &mut [u8]) -> Input
     Input::Held(done)
 }
 
-// Prints a boundary, one line.
-fn print_tick(tick: u64) {
-    let mut line = [0u8; 128];
-    let n = lines::tick_line(tick, &mut line);
-    io::write_all(STDOUT_FILENO, &line[..n]);
-}
-
-// Prints the boundaries 0 to last, one a line.
-fn print_ticks(t: &[u64], last: u64) {
-    let mut k = 0;
-    while k < t.len() {
-        if last < k as u64 {
-            return;
-        }
-        print_tick(t[k]);
-        k += 1;
+// Writes a text to standard output: nothing but the answer to the input.
+fn show(input: &[u8], text: &[u8])
+    requires { ⌜ now text ≡ printed (now input) ⌝ }
+{
+    if !io::write_all(STDOUT_FILENO, text) {
+        os::fail(b"standard output");
     }
 }
 
-// Prints the verdict on a set, with the boundaries where it is accepted.
-fn print_verdict(b: &[u8], t: &mut [u64]) {
-    let v = set::check(b, t);
-    let mut line = [0u8; 128];
-    if v.number == 0 {
-        let n = lines::accepted_line(set::tracks(b), v.count, v.timescale, &mut line);
-        io::write_all(STDOUT_FILENO, &line[..n]);
-        print_ticks(t, v.count);
-        return;
-    }
-    let n = lines::refused_line(v.number, v.track, v.place, &mut line);
-    io::write_all(STDOUT_FILENO, &line[..n]);
+// Prints the answer to its input.
+fn print(input: &[u8]) {
+    let mut text = [0u8; TEXT_ROOM];
+    let n = printed::answer(input, &mut text);
+    show(input, &text[..n]);
 }
 
-// The buffer holds one byte more than a set may have, to notice more. The table of 1,024 numbers is long enough for
-// 65,536 bytes: an accepted fragment takes at least 92 bytes (a `moof` of 84 and the header of an empty `mdat`), so there
-// are at most 712 fragments and 713 boundaries.
+// Reads the input and prints the answer to it.
 fn main() {
-    let mut input = [0u8; 65537];
+    let mut input = [0u8; INPUT_LIMIT + 1];
     let Input::Held(n) = read_all(&mut input) else {
         os::fail(b"standard input");
         return;
     };
-    if 65536 < n {
-        io::write_all(STDOUT_FILENO, b"input over 65536 bytes\n");
-        return;
-    }
-    let mut table = [0u64; 1024];
-    print_verdict(&input[..n], &mut table);
+    print(&input[..n]);
 }

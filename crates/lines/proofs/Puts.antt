@@ -6,7 +6,7 @@ use native.Mathlib.Nat.{add-zero, add-suc, suc-add}
 use native.Mathlib.Numerals.{add-one}
 use native.Mathlib.Omega.{arith}
 use lib.ListN.{length, take, drop, getD, set, length-append}
-use lib.Seq.{sets, sets-eq, length-sets, length-take-le, take-all, take-suc}
+use lib.Seq.{sets, sets-eq, length-sets, length-take-le, take-all, take-suc, take-append-seam}
 use Rattle.lines.specs.Puts.{Put, Line}
 
 -- what is put behind xs joins it
@@ -38,6 +38,14 @@ whole {l} {xs} {n} {m} p h =
       within = w;
       front = sym (length-take-le n m w);
     }
+
+-- the bytes up to where it ends are the line
+pub line-is : {l xs : List ℕ} {n : ℕ} {m : List ℕ} → Line xs l n m → take n m ≡ xs
+line-is {l} {xs} p = rw (p .size, p .starts) (take-append-seam xs (drop (length xs) l))
+
+-- a line leaves one possible length and one possible buffer
+pub line-unique : {l xs : List ℕ} {n k : ℕ} {m o : List ℕ} → Line xs l n m → Line xs l k o → (n ≡ k) × (m ≡ o)
+line-unique p q = (p .size ∙ sym (q .size), p .starts ∙ sym (q .starts))
 
 -- one more byte of a text
 pub grown : (l : List ℕ) (at : ℕ) (xs : List ℕ) (i : ℕ) (m : List ℕ) → i < length xs → m ≡ sets l at (take i xs)

@@ -1,8 +1,10 @@
 -- What the programs print, as lists of bytes.
 use Prim.Native.Nat.{ℕ, zero, suc, _+_, _/_, _%_}
 use mathlib.Core.List.{List, [], _∷_, _++_}
-use lib.Dec.{ltb}
+use lib.Dec.{ltb, eqb}
+use lib.ListN.{take}
 use Rattle.numbers.specs.Numbers.{when}
+use Rattle.rules.specs.Track.{Outcome}
 use Rattle.rules.specs.declared.Verdict.{Verdict}
 
 -- the digit of a number below 10
@@ -50,6 +52,14 @@ ofFragments = 0x20 ∷ 0x66 ∷ 0x72 ∷ 0x61 ∷ 0x67 ∷ 0x6d ∷ 0x65 ∷ 0x6
 abbrev pub atTimescale : List ℕ
 atTimescale = 0x20 ∷ 0x74 ∷ 0x69 ∷ 0x6d ∷ 0x65 ∷ 0x73 ∷ 0x63 ∷ 0x61 ∷ 0x6c ∷ 0x65 ∷ 0x20 ∷ []
 
+-- `input over `
+abbrev pub inputOver : List ℕ
+inputOver = 0x69 ∷ 0x6e ∷ 0x70 ∷ 0x75 ∷ 0x74 ∷ 0x20 ∷ 0x6f ∷ 0x76 ∷ 0x65 ∷ 0x72 ∷ 0x20 ∷ []
+
+-- ` bytes`
+abbrev pub ofBytes : List ℕ
+ofBytes = 0x20 ∷ 0x62 ∷ 0x79 ∷ 0x74 ∷ 0x65 ∷ 0x73 ∷ []
+
 -- a space
 abbrev pub space : List ℕ
 space = 0x20 ∷ []
@@ -66,6 +76,22 @@ acceptedLine tracks fragments timescale =
 -- a number alone, one line
 unfoldable pub tickLine : ℕ → List ℕ
 tickLine tick = decimal tick ++ lineEnd
+
+-- numbers, one a line
+unfoldable pub tickLines : List ℕ → List ℕ
+tickLines [] = []
+tickLines (tick ∷ ticks) = tickLine tick ++ tickLines ticks
+
+-- `input over N bytes`, one line
+unfoldable pub overLine : ℕ → List ℕ
+overLine limit = field inputOver limit ++ ofBytes ++ lineEnd
+
+-- the outcome of the set job on so many tracks: the accepted line and the F + 1 boundaries, one a line; or the refused line
+unfoldable pub setLines : ℕ → Outcome → List ℕ
+setLines tracks o =
+    when (eqb (o .verdict .number) 0)
+    (acceptedLine tracks (o .verdict .count) (o .verdict .timescale) ++ tickLines (take (o .verdict .count + 1) (o .table)))
+    (refusedLine (o .verdict .number) (o .verdict .track) (o .verdict .place))
 
 -- a verdict's five numbers, a space before each
 unfoldable pub spaced : Verdict → List ℕ

@@ -1,9 +1,9 @@
 // What the programs print, as lines in a lent buffer.
 use rules::Verdict;
 ghost use mathlib.Core.List.{_∷_, []};
-ghost use Prim.Native.Nat.{_+_, _≤_, _<_};
-ghost use lib.ListN.{length};
-ghost use Rattle.lines.specs.Lines.{digit, decimal, field, lineEnd, acceptedLine, refusedLine, tickLine, spaced, caseLine};
+ghost use Prim.Native.Nat.{_+_, _*_, _≤_, _<_};
+ghost use lib.ListN.{length, take};
+ghost use Rattle.lines.specs.Lines.{digit, decimal, field, lineEnd, acceptedLine, refusedLine, tickLine, tickLines, overLine, setLines, spaced, caseLine};
 ghost use Rattle.lines.specs.Puts.{Put, Line};
 
 // Puts the digit of a number below 10 at a place, and answers the next place.
@@ -59,10 +59,11 @@ fn put_end(at: usize, out: &mut [u8]) -> usize
     at + 1
 }
 
-// The line of a refused set, at the start of the buffer; answers its length.
-pub fn refused_line(number: u64, track: u64, place: u64, out: &mut [u8]) -> usize
+// Puts the line of a refused set at the start, and answers the place behind it.
+fn refused_line(number: u64, track: u64, place: u64, out: &mut [u8]) -> usize
     requires { ⌜ 128 ≤ length (now out) ⌝ }
-    ensures { λ r. ⌜ Line (refusedLine number track place) (now (out .entry)) r (now (out .exit)) ⌝ }
+    ensures { λ r. ⌜ Put (now (out .entry)) 0 (refusedLine number track place) r (now (out .exit)) ⌝ }
+    ensures { λ r. ⌜ r ≤ 128 ⌝ }
 {
     let a = put_field(b"refused ", number, 0, out);
     let b = put_field(b" track ", track, a, out);
@@ -70,10 +71,11 @@ pub fn refused_line(number: u64, track: u64, place: u64, out: &mut [u8]) -> usiz
     put_end(c, out)
 }
 
-// The line of an accepted set, at the start of the buffer; answers its length.
-pub fn accepted_line(tracks: u64, fragments: u64, timescale: u64, out: &mut [u8]) -> usize
+// Puts the line of an accepted set at the start, and answers the place behind it.
+fn accepted_line(tracks: u64, fragments: u64, timescale: u64, out: &mut [u8]) -> usize
     requires { ⌜ 128 ≤ length (now out) ⌝ }
-    ensures { λ r. ⌜ Line (acceptedLine tracks fragments timescale) (now (out .entry)) r (now (out .exit)) ⌝ }
+    ensures { λ r. ⌜ Put (now (out .entry)) 0 (acceptedLine tracks fragments timescale) r (now (out .exit)) ⌝ }
+    ensures { λ r. ⌜ r ≤ 128 ⌝ }
 {
     let a = put_field(b"accepted tracks ", tracks, 0, out);
     let b = put_field(b" fragments ", fragments, a, out);
@@ -81,13 +83,54 @@ pub fn accepted_line(tracks: u64, fragments: u64, timescale: u64, out: &mut [u8]
     put_end(c, out)
 }
 
-// The line of a boundary, at the start of the buffer; answers its length.
-pub fn tick_line(tick: u64, out: &mut [u8]) -> usize
-    requires { ⌜ 128 ≤ length (now out) ⌝ }
-    ensures { λ r. ⌜ Line (tickLine tick) (now (out .entry)) r (now (out .exit)) ⌝ }
+// Puts the line of a boundary at a place, and answers the place behind it.
+fn tick_line(tick: u64, at: usize, out: &mut [u8]) -> usize
+    requires { ⌜ at + 21 ≤ length (now out) ⌝ }
+    ensures { λ r. ⌜ Put (now (out .entry)) at (tickLine tick) r (now (out .exit)) ⌝ }
+    ensures { λ r. ⌜ r ≤ at + 21 ⌝ }
 {
-    let a = put_field(b"", tick, 0, out);
+    let a = put_field(b"", tick, at, out);
     put_end(a, out)
+}
+
+// Puts the numbers 0 to last of a table at a place, one a line, and answers the place behind them.
+fn tick_lines(t: &[u64], last: u64, at: usize, out: &mut [u8]) -> usize
+    requires { ⌜ at + 21 * length (now t) ≤ length (now out) ⌝ }
+    ensures { λ r. ⌜ Put (now (out .entry)) at (tickLines (take (last + 1) (now (t .entry)))) r (now (out .exit)) ⌝ }
+    ensures { λ r. ⌜ r ≤ at + 21 * length (now (t .entry)) ⌝ }
+{
+    let mut k = 0;
+    let mut next = at;
+    while k < t.len() {
+        if last < k as u64 {
+            return next;
+        }
+        next = tick_line(t[k], next, out);
+        k += 1;
+    }
+    next
+}
+
+// The lines of the set job's outcome, at the start of the buffer; answers their length.
+pub fn set_lines(tracks: u64, v: Verdict, t: &[u64], out: &mut [u8]) -> usize
+    requires { ⌜ 128 + 21 * length (now t) ≤ length (now out) ⌝ }
+    ensures { λ r. ⌜ Line (setLines tracks (record { verdict = v; table = now (t .entry) })) (now (out .entry)) r (now (out .exit)) ⌝ }
+{
+    if v.number == 0 {
+        let n = accepted_line(tracks, v.count, v.timescale, out);
+        return tick_lines(t, v.count, n, out);
+    }
+    refused_line(v.number, v.track, v.place, out)
+}
+
+// The line of an input over a limit, at the start of the buffer; answers its length.
+pub fn over_line(limit: u64, out: &mut [u8]) -> usize
+    requires { ⌜ 128 ≤ length (now out) ⌝ }
+    ensures { λ r. ⌜ Line (overLine limit) (now (out .entry)) r (now (out .exit)) ⌝ }
+{
+    let a = put_field(b"input over ", limit, 0, out);
+    let b = put_text(b" bytes", a, out);
+    put_end(b, out)
 }
 
 // Puts the five numbers of a verdict, a space before each, at a place, and answers the place behind them.

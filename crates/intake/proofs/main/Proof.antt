@@ -25,31 +25,19 @@ fail-requires c κs = search needs
 returns : tie.Need-returns
 returns c = search needs
 
-slice-aggregate-write-all : tie.Need-slice-aggregate-write-all
-slice-aggregate-write-all c = search needs
+array-share-prefix-input : tie.Need-array-share-prefix-input
+array-share-prefix-input c = front _ (c .before .n .given .1) (c .before .before .before .before .read-all .ensures) .0
 
-write-all-requires : tie.Need-write-all-requires
-write-all-requires c κs = search needs
+slice-aggregate-print : tie.Need-slice-aggregate-print
+slice-aggregate-print c =
+    let b = c .before .before in
+    front _ (b .n .given .1) (b .before .before .before .read-all .ensures) .1
+
+print-requires : tie.Need-print-requires
+print-requires c κs = search needs
 
 returns-2 : tie.Need-returns-2
 returns-2 c = search needs
-
-array-share-prefix-input : tie.Need-array-share-prefix-input
-array-share-prefix-input c = search needs
-
-slice-aggregate-print-verdict : tie.Need-slice-aggregate-print-verdict
-slice-aggregate-print-verdict c =
-    let b = c .before .before .before in
-    front _ (b .n .given .1) (b .before .before .before .read-all .ensures) .1
-
-slice-aggregate-print-verdict-2 : tie.Need-slice-aggregate-print-verdict-2
-slice-aggregate-print-verdict-2 c = search needs
-
-print-verdict-requires : tie.Need-print-verdict-requires
-print-verdict-requires c κs = search needs
-
-returns-3 : tie.Need-returns-3
-returns-3 c = search needs
 
 pub main-spec : {M : Type 1} → statement M
 main-spec =
@@ -62,11 +50,7 @@ main-spec =
     slice-aggregate-fail
     fail-requires
     returns
-    slice-aggregate-write-all
-    write-all-requires
-    returns-2
     array-share-prefix-input
-    slice-aggregate-print-verdict
-    slice-aggregate-print-verdict-2
-    print-verdict-requires
-    returns-3)
+    slice-aggregate-print
+    print-requires
+    returns-2)

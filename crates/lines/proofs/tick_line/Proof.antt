@@ -1,7 +1,7 @@
 -- `lines::tick_line` meets its contract: what is put behind one another is the line. Assumes nothing.
 use native.Mathlib.Omega.{arith}
 use borrow.Author.Needs.{needs}
-use Rattle.lines.proofs.Puts.{then, whole}
+use Rattle.lines.proofs.Puts.{then}
 use Rattle.lines.specs.Lines.{tickLine}
 use Rattle.lines.proofs.tick_line.Statement.{statement}
 use Rattle.lines.proofs.tick_line.Tie as tie
@@ -23,7 +23,7 @@ unfolding tickLine
 returns c =
     let last = c .before .before in
     let first = last .before .before .before .before in
-    whole (then (first .put-field .ensures .0) (last .put-end .ensures)) (omega (arith, last .put-end .ensures .next, first .put-field .ensures .1))
+    (then (first .put-field .ensures .0) (last .put-end .ensures), omega (arith, last .put-end .ensures .next, first .put-field .ensures .1))
 
 pub tick-line-spec : {M : Type 1} → statement M
 tick-line-spec =
