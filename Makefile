@@ -97,3 +97,6 @@ vectors:
 	samples/cases crates/vectors/stdin crates/vectors/stdout
 	cat rust/vectors/fuzz-cases.bin >> crates/vectors/stdin
 	cat rust/vectors/fuzz-expected.txt >> crates/vectors/stdout
+	rust/vectors/print-cases
+	cat rust/vectors/print-cases.bin >> crates/vectors/stdin
+	cat rust/vectors/print-expected.txt >> crates/vectors/stdout

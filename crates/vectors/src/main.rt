@@ -1,8 +1,10 @@
 // Reads test cases from standard input to its end, and prints a line for each: the job, its verdict, and a sum over the
 // table after it. A case: a byte for the job (0 index, 1 track, 2 set), four bytes for the table's room, four bytes for
-// the length, and that many bytes.
+// the length, and that many bytes. For job 3 it prints what the program `intake` prints for the bytes; the room is for nothing.
 use libc::STDIN_FILENO;
 use libc::STDOUT_FILENO;
+use printed::INPUT_LIMIT;
+use printed::TEXT_ROOM;
 use rules::Verdict;
 ghost use mathlib.Core.Path.{_≡_};
 ghost use lib.ListN.{length};
@@ -43,8 +45,19 @@ fn run(job: u8, s: &[u8], t: &mut [u64]) -> Verdict {
     set::check(s, t)
 }
 
-// Runs a case and prints its line.
+// Prints what the program `intake` prints.
+fn print_text(s: &[u8]) {
+    let mut text = [0u8; TEXT_ROOM];
+    let n = printed::answer(s, &mut text);
+    io::write_all(STDOUT_FILENO, &text[..n]);
+}
+
+// Runs a case and prints its line, or its text.
 fn print_case(job: u8, s: &[u8], t: &mut [u64]) {
+    if job == 3 {
+        print_text(s);
+        return;
+    }
     fill(t);
     let v = run(job, s, t);
     let mut line = [0u8; 160];
@@ -52,7 +65,7 @@ fn print_case(job: u8, s: &[u8], t: &mut [u64]) {
     io::write_all(STDOUT_FILENO, &line[..n]);
 }
 
-// Reads a case and prints its line; answers whether there was a whole one.
+// Reads a case and prints what it comes to; answers whether there was a whole one.
 fn next_case(bytes: &mut [u8], table: &mut [u64]) -> bool {
     let mut head = [0u8; 9];
     if io::read_full(STDIN_FILENO, &mut head) < 9 {
@@ -83,7 +96,7 @@ fn run_cases(bytes: &mut [u8], table: &mut [u64]) {
 }
 
 fn main() {
-    let mut bytes = [0u8; 65536];
+    let mut bytes = [0u8; INPUT_LIMIT + 1];
     let mut table = [0u64; 4096];
     run_cases(&mut bytes, &mut table);
 }
