@@ -1,0 +1,59 @@
+//! `flangemint boxes`: the tree of a track, with the refused box marked.
+
+use crate::args::Boxes;
+use crate::bundle::Bundle;
+use crate::facts::Track;
+use crate::failure::Failure;
+use crate::input::{open, Show};
+use crate::layout::letters;
+use crate::status::Status;
+use crate::{json, output, words};
+use std::fmt::Write;
+
+const READ_HERE: &str = "\
+The framing is refused, so the proved index lists nothing: the command itself read these boxes from
+the bytes.";
+
+pub fn run(args: &Boxes) -> Result<Status, Failure> {
+    let file = open(&args.file, Show::Progress)?;
+    let name = file.name.clone();
+    let bundle = Bundle::read(vec![file], None)?;
+    let tracks = bundle.tracks();
+    let track = Track::of(&name, tracks.first().copied().unwrap_or_default());
+    let text = if args.json { json::line(json::boxes(&track)) } else { tree(&track) };
+    output::answer(text.as_bytes())?;
+    Ok(Status::of(&track.alone.verdict))
+}
+
+/// The verdict, then a line a box: offset, size, type by depth.
+fn tree(track: &Track) -> String {
+    let verdict = &track.alone.verdict;
+    let mut text = words::line(verdict, 1) + "\n";
+    if verdict.number == 1 {
+        return text + "The input is too long: no box of it is listed.\n";
+    }
+    if !track.listing.proved {
+        let _ = writeln!(text, "{READ_HERE}");
+    }
+    let mark = format!("  <- refused {}", verdict.number);
+    // 23 points to no byte; every other refusal to one.
+    let mut place = (!verdict.is_accepted() && verdict.number != 23).then_some(verdict.place);
+    for one in &track.listing.boxes {
+        let marked = place.take_if(|place| *place == one.offset).map_or("", |_| &mark);
+        let indent = 2 * one.depth;
+        let _ = writeln!(
+            text,
+            "{:>12} {:>12} {:indent$}{}{marked}",
+            one.offset,
+            one.size,
+            "",
+            letters(one.kind)
+        );
+    }
+    if let Some(place) = place {
+        let end = place == track.bytes.len() as u64;
+        let what = if end { "end of the track" } else { "no box can be read here" };
+        let _ = writeln!(text, "{place:>12} {:>12} {what}{mark}", "-");
+    }
+    text
+}

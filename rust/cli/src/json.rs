@@ -1,0 +1,136 @@
+//! The JSON objects; docs/JSON.md has every field.
+
+use crate::facts::{Set, Track};
+use crate::found::Fact;
+use crate::judge::Judged;
+use crate::layout::letters;
+use crate::place::paths;
+use crate::reason::{Fragment, Reason};
+use crate::refusals::Part;
+use flangemint::Verdict;
+use serde_json::{json, Map, Value};
+
+type Object = Map<String, Value>;
+
+/// A judged set; `boundaries` may be left out where nobody asked for them.
+pub fn about(set: &Set, reason: Option<&Reason>, boundaries: bool) -> Object {
+    judged(&set.files, set.names.len(), &set.judged, reason, boundaries)
+}
+
+/// A track by itself.
+pub fn alone(track: &Track, reason: Option<&Reason>) -> Object {
+    judged(&[track.name.to_owned()], 1, &track.alone, reason, true)
+}
+
+fn judged(
+    files: &[String],
+    tracks: usize,
+    judged: &Judged,
+    reason: Option<&Reason>,
+    boundaries: bool,
+) -> Object {
+    let mut object = verdict(&judged.verdict);
+    object.insert("files".into(), json!(files));
+    object.insert("tracks".into(), json!(tracks));
+    if judged.verdict.is_accepted() {
+        object.insert("fragments".into(), json!(judged.verdict.count));
+        object.insert("timescale".into(), json!(judged.verdict.timescale));
+        if boundaries {
+            object.insert("boundaries".into(), json!(judged.boundaries));
+        }
+    }
+    if let Some(reason) = reason {
+        object.insert("refusal".into(), Value::Object(refusal(reason)));
+    }
+    object
+}
+
+/// A set that was not judged, and why.
+pub fn not_judged(files: &[String], error: &str) -> Object {
+    let mut object = Object::new();
+    object.insert("files".into(), json!(files));
+    object.insert("verdict".into(), json!("not judged"));
+    object.insert("error".into(), json!(error));
+    object
+}
+
+fn verdict(verdict: &Verdict) -> Object {
+    let mut object = Object::new();
+    object.insert(
+        "verdict".into(),
+        json!(if verdict.is_accepted() { "accepted" } else { "refused" }),
+    );
+    object.insert("number".into(), json!(verdict.number));
+    object.insert("track".into(), json!(verdict.track));
+    object.insert("place".into(), json!(verdict.place));
+    object
+}
+
+fn refusal(reason: &Reason) -> Object {
+    let mut object = Object::new();
+    let mut put = |name: &str, value: Option<Value>| {
+        value.map(|value| object.insert(name.to_owned(), value));
+    };
+    let part = |part: Option<&Part>| part.map(|part| json!(part.text()));
+    put("file", Some(json!(reason.file)));
+    put("title", reason.section.map(|section| json!(section.title)));
+    put("means", part(reason.section.and_then(|section| section.means())));
+    put("cause", part(reason.section.and_then(|section| section.cause())));
+    put("remedy", part(reason.section.and_then(|section| section.remedy())));
+    put(
+        "box",
+        reason.spot.named.as_ref().map(|(one, path)| {
+            json!({"path": path, "type": letters(one.kind), "offset": one.offset, "size": one.size})
+        }),
+    );
+    put("around", reason.spot.around.as_ref().map(|path| json!(path)));
+    put("fragment", reason.fragment.map(fragment));
+    put("found", reason.contrast.as_ref().map(|contrast| fact(&contrast.found)));
+    put("expected", reason.contrast.as_ref().map(|contrast| fact(&contrast.expected)));
+    put("note", reason.hint.map(|hint| json!(hint)));
+    object
+}
+
+fn fragment(fragment: Fragment) -> Value {
+    let mut object = Object::new();
+    object.insert("number".into(), json!(fragment.number));
+    if let Some(start) = fragment.start {
+        object.insert("start".into(), json!(start.ticks));
+        object.insert("timescale".into(), json!(start.timescale));
+        object.insert("seconds".into(), json!(start.ticks as f64 / start.timescale as f64));
+    }
+    Value::Object(object)
+}
+
+/// The number is left out where it fits no integer of 64 bits.
+fn fact(fact: &Fact) -> Value {
+    let mut object = Object::new();
+    object.insert("words".into(), json!(fact.words));
+    let unsigned =
+        fact.number.and_then(|number| u64::try_from(number).ok()).map(|number| json!(number));
+    let signed =
+        || fact.number.and_then(|number| i64::try_from(number).ok()).map(|number| json!(number));
+    if let Some(number) = unsigned.or_else(signed) {
+        object.insert("number".into(), number);
+    }
+    Value::Object(object)
+}
+
+/// The boxes of a track.
+pub fn boxes(track: &Track) -> Object {
+    let mut object = verdict(&track.alone.verdict);
+    object.insert("file".into(), json!(track.name));
+    object.insert("listed".into(), json!(if track.listing.proved { "index" } else { "bytes" }));
+    let rows = track.listing.boxes.iter().zip(paths(&track.listing.boxes)).map(|(one, path)| {
+        json!({
+            "offset": one.offset, "size": one.size, "type": letters(one.kind), "depth": one.depth, "path": path,
+        })
+    });
+    object.insert("boxes".into(), rows.collect());
+    object
+}
+
+/// One line.
+pub fn line(object: Object) -> String {
+    format!("{}\n", Value::Object(object))
+}

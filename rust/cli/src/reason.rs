@@ -1,0 +1,253 @@
+//! Why a set was refused, in facts: file, box, fragment, time, what stands there, what was
+//! expected. All of it is computed from the bytes and the proved jobs after the verdict is there,
+//! and it never changes the verdict.
+
+use crate::bundle::MARK;
+use crate::facts::{Set, Track};
+use crate::found::{self, Contrast};
+use crate::judge;
+use crate::place::{spot, Spot};
+use crate::refusals::{section, Section};
+use flangemint::Verdict;
+
+pub struct Reason {
+    /// The file of the refused track.
+    pub file: String,
+    pub spot: Spot,
+    /// Where the place is the end of the track.
+    pub at_end: bool,
+    pub fragment: Option<Fragment>,
+    pub contrast: Option<Contrast>,
+    pub section: Option<&'static Section>,
+    pub hint: Option<&'static str>,
+}
+
+/// A fragment, counted from 0.
+#[derive(Clone, Copy, Debug, PartialEq, Eq)]
+pub struct Fragment {
+    pub number: u64,
+    pub start: Option<Start>,
+}
+
+/// Where a fragment starts: at the end of the one before, the first at its own `tfdt`.
+#[derive(Clone, Copy, Debug, PartialEq, Eq)]
+pub struct Start {
+    pub ticks: u64,
+    pub timescale: u64,
+}
+
+/// The numbers of a fragment whose `tfdt` is there and well formed: rules 14 and 15 hold.
+const AFTER_BODIES: u64 = 16;
+
+const BUNDLE_HINT: &str = "the file begins like a bundle: `flangemint check --bundle` judges those";
+
+impl Reason {
+    /// The reason of a set's refusal; `None` if it is accepted.
+    pub fn of_set(set: &Set) -> Option<Reason> {
+        let verdict = &set.judged.verdict;
+        if verdict.is_accepted() {
+            return None;
+        }
+        let track = match verdict.number {
+            // The bundle as a whole is refused.
+            24 => None,
+            1 if set.names.len() != 1 => None,
+            _ => set.track(verdict.track as usize),
+        };
+        let Some(track) = track else {
+            return Some(Reason {
+                file: set.files.join(", "),
+                contrast: match verdict.number {
+                    24 => found::in_bundle(set.bundle.bytes(), verdict.place, verdict.track),
+                    _ => found::too_long(),
+                },
+                ..Reason::empty(verdict)
+            });
+        };
+        Some(match verdict.number {
+            25..=28 => {
+                let contrast =
+                    set.track(0).and_then(|zero| found::beside(verdict.number, &track, &zero));
+                Reason { contrast, ..Reason::of_place(&track, verdict) }
+            }
+            _ => Reason::of_place(&track, verdict),
+        })
+    }
+
+    /// The reason of a track's own refusal; `None` if it is accepted.
+    pub fn of_track(track: &Track) -> Option<Reason> {
+        let verdict = &track.alone.verdict;
+        (!verdict.is_accepted()).then(|| Reason::of_place(track, verdict))
+    }
+
+    fn empty(verdict: &Verdict) -> Reason {
+        Reason {
+            file: String::new(),
+            spot: Spot::default(),
+            at_end: false,
+            fragment: None,
+            contrast: None,
+            section: section(verdict.number),
+            hint: None,
+        }
+    }
+
+    fn of_place(track: &Track, verdict: &Verdict) -> Reason {
+        // 1 and 23 have no place: their 0 is no box.
+        if matches!(verdict.number, 1 | 23) {
+            let contrast = found::in_track(verdict.number, track, 0, None);
+            return Reason { file: track.name.to_owned(), contrast, ..Reason::empty(verdict) };
+        }
+        let spot = spot(track.view(), verdict.place);
+        let before = spot.fragment.and_then(|(_, moof)| end_before(track, moof));
+        let fragment = spot.fragment.map(|(number, moof)| {
+            let first =
+                || (verdict.number >= AFTER_BODIES).then(|| own_start(track, moof)).flatten();
+            Fragment { number, start: before.or_else(first) }
+        });
+        Reason {
+            file: track.name.to_owned(),
+            at_end: verdict.place == track.bytes.len() as u64,
+            fragment,
+            contrast: found::in_track(
+                verdict.number,
+                track,
+                verdict.place,
+                before.map(|start| start.ticks),
+            ),
+            hint: track.bytes.starts_with(&MARK).then_some(BUNDLE_HINT),
+            spot,
+            ..Reason::empty(verdict)
+        }
+    }
+}
+
+/// Where the fragments before a `moof` end, by the track job over the bytes before it.
+fn end_before(track: &Track, moof: u64) -> Option<Start> {
+    let before = judge::track(track.bytes.get(..usize::try_from(moof).ok()?)?);
+    let ticks = *before.boundaries.last()?;
+    Some(Start { ticks, timescale: before.verdict.timescale })
+}
+
+/// Where the `tfdt` of a fragment says that it starts.
+fn own_start(track: &Track, moof: u64) -> Option<Start> {
+    let view = track.view();
+    let traf = view.child(view.at(moof), b"traf")?;
+    let tfdt = view.child(Some(traf), b"tfdt")?;
+    Some(Start { ticks: view.body(tfdt).decode_time()?, timescale: found::timescale(view)? })
+}
+
+#[cfg(test)]
+mod tests {
+    use super::*;
+    use crate::bundle::Bundle;
+    use crate::{json, words};
+    use maker::bundle::record;
+    use maker::cases::{Case, Job};
+    use maker::examples::examples;
+    use maker::mix::draw;
+    use maker::rng::Rng;
+    use std::collections::BTreeMap;
+
+    /// A case judged as a file or as a bundle.
+    fn judged(case: &Case) -> Set {
+        match case.job {
+            Job::Set => Set::of_bundle("set".to_owned(), Bundle::packed(case.bytes.clone())),
+            _ => {
+                let bundle = Bundle::packed(record(&case.bytes));
+                Set::of_files(vec!["track".to_owned()], bundle)
+            }
+        }
+    }
+
+    /// What must be so of every reason; answers the number.
+    fn look(case: &Case, name: &str) -> u64 {
+        let set = judged(case);
+        let verdict = set.judged.verdict;
+        if let Some(expected) = &case.expected {
+            assert_eq!(
+                (verdict.number, verdict.place),
+                (expected.number, expected.place),
+                "{name}"
+            );
+        }
+        let reason = Reason::of_set(&set);
+        let text = words::about(&set, reason.as_ref(), &[], false);
+        let object = json::about(&set, reason.as_ref(), true);
+        assert_eq!(text.lines().next().unwrap(), words::line(&verdict, set.names.len()), "{name}");
+        assert_eq!(object["number"], verdict.number, "{name}");
+        assert_eq!(reason.is_none(), verdict.is_accepted(), "{name}");
+        if let Some(reason) = reason {
+            facts(&reason, &verdict, name);
+        }
+        verdict.number
+    }
+
+    fn facts(reason: &Reason, verdict: &Verdict, name: &str) {
+        let Verdict { number, place, .. } = *verdict;
+        assert!(reason.section.is_some(), "{name}");
+        let named = reason.spot.named.as_ref();
+        assert!(named.is_none_or(|(one, _)| one.offset == place), "{name}");
+        match number {
+            3 | 4 | 7..=22 | 25 | 26 | 28 => {
+                assert!(named.is_some(), "{name}: {number} without a box")
+            }
+            6 | 27 => assert!(named.is_some() || reason.at_end, "{name}: {number} without a box"),
+            _ => (),
+        }
+        if matches!(number, 14..=22 | 28) {
+            let fragment = reason.fragment.unwrap_or_else(|| panic!("{name}: no fragment"));
+            assert!(number < AFTER_BODIES || fragment.start.is_some(), "{name}: no time");
+        }
+        if let Some((_, path)) = named {
+            let expected = match number {
+                10 | 26 => "mdhd",
+                12 | 25 => "hdlr",
+                17 => "traf/tfhd",
+                18 => "traf",
+                19 => "traf/tfdt",
+                9 => "ftyp",
+                _ => "",
+            };
+            assert!(
+                path.split('[').next().unwrap().ends_with(expected) || path.ends_with(expected),
+                "{name}: {path}"
+            );
+        }
+        let contrast = reason
+            .contrast
+            .as_ref()
+            .unwrap_or_else(|| panic!("{name}: {number} without a contrast"));
+        if matches!(number, 3 | 4 | 11 | 13 | 17 | 19 | 20 | 22 | 26..=28) {
+            assert_ne!(contrast.found, contrast.expected, "{name}");
+            assert_ne!(contrast.found.number, contrast.expected.number, "{name}");
+        }
+        // The side of the bound on which the rule is broken.
+        if let (3 | 4 | 20 | 24, Some(found), Some(expected)) =
+            (number, contrast.found.number, contrast.expected.number)
+        {
+            assert_eq!(found < expected, number == 3, "{name}: {found} {expected}");
+        }
+    }
+
+    #[test]
+    fn every_example_has_its_reason() {
+        let mut seen: BTreeMap<u64, u32> = BTreeMap::new();
+        for example in examples().iter().filter(|example| example.case.job != Job::Index) {
+            *seen.entry(look(&example.case, &example.name)).or_default() += 1;
+        }
+        let missing: Vec<u64> = (0..=28).filter(|number| !seen.contains_key(number)).collect();
+        assert_eq!(missing, [1, 23], "the command lends enough, and no example is a GiB long");
+    }
+
+    #[test]
+    fn drawn_cases_have_their_reason() {
+        let mut refused = 0;
+        for case in 0..3000 {
+            let job = [Job::Track, Job::Set][case as usize % 2];
+            let number = look(&draw(job, &mut Rng::of_case(7, case)), &format!("drawn {case}"));
+            refused += u32::from(number != 0);
+        }
+        assert!(refused > 1000, "{refused} refused");
+    }
+}

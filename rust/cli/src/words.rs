@@ -1,0 +1,138 @@
+//! A verdict in words.
+
+use crate::facts::Set;
+use crate::judge::Judged;
+use crate::place::Spot;
+use crate::reason::Reason;
+use crate::refusals::{Part, Section};
+use crate::time::seconds;
+use flangemint::Verdict;
+use std::fmt::Write;
+
+/// As many boundaries are shown unless all are asked for.
+const SHOWN: usize = 10;
+
+/// The line that the program `intake` prints first.
+pub fn line(verdict: &Verdict, tracks: usize) -> String {
+    let Verdict { number, track, place, count, timescale } = verdict;
+    if verdict.is_accepted() {
+        return format!("accepted tracks {tracks} fragments {count} timescale {timescale}");
+    }
+    format!("refused {number} track {track} at {place}")
+}
+
+/// The whole answer about a set; `each` has the lines about every file by itself.
+pub fn about(set: &Set, reason: Option<&Reason>, each: &[String], all: bool) -> String {
+    let mut text = line(&set.judged.verdict, set.names.len()) + "\n";
+    if !each.is_empty() {
+        text += "\nEach file by itself:\n";
+        each.iter().for_each(|line| text += &format!("  {line}\n"));
+    }
+    text += "\n";
+    match reason {
+        Some(reason) => text += &refusal(&set.judged.verdict, reason),
+        None => text += &acceptance(set, all),
+    }
+    text
+}
+
+/// One line about a file by itself.
+pub fn alone(name: &str, verdict: &Verdict, reason: Option<&Reason>) -> String {
+    let Verdict { number, place, count, timescale, .. } = verdict;
+    let Some(reason) = reason else {
+        return format!("{name}: accepted fragments {count} timescale {timescale}");
+    };
+    let spot = reason.spot.named.as_ref().map_or(String::new(), |(_, path)| format!(" ({path})"));
+    let title = reason.section.map_or("", |section| section.title);
+    format!("{name}: refused {number} at {place}{spot}: {title}")
+}
+
+fn acceptance(set: &Set, all: bool) -> String {
+    let mut text = String::new();
+    for name in &set.names {
+        text += &row("file", name);
+    }
+    let Judged { verdict, boundaries } = &set.judged;
+    let time = |ticks: u64| seconds(ticks, verdict.timescale);
+    if let (Some(first), Some(last)) = (boundaries.first(), boundaries.last()) {
+        text += &row("time", &format!("{} to {}", time(*first), time(*last)));
+    }
+    text += "\nBoundaries, in ticks and seconds:\n";
+    let width = boundaries.last().map_or(0, |last| time(*last).len().max(last.to_string().len()));
+    let shown = if all { boundaries.len() } else { SHOWN };
+    for ticks in boundaries.iter().take(shown) {
+        let _ = writeln!(text, "  {ticks:>width$}  {:>width$}", time(*ticks));
+    }
+    if let Some(left @ 1..) = boundaries.len().checked_sub(shown) {
+        let _ = writeln!(text, "  {left} more are left out: --boundaries shows them all");
+    }
+    text
+}
+
+fn refusal(verdict: &Verdict, reason: &Reason) -> String {
+    let mut text = row("file", &reason.file);
+    match verdict.number {
+        // No byte of a track is meant.
+        1 | 23 => (),
+        24 => {
+            text += &row(
+                "record",
+                &format!("number {}, at byte {} of the bundle", verdict.track, verdict.place),
+            )
+        }
+        _ => text += &row("box", &place(&reason.spot, verdict.place, reason.at_end)),
+    }
+    if let Some(fragment) = reason.fragment {
+        let start =
+            fragment.start.map(|start| format!(", at {}", seconds(start.ticks, start.timescale)));
+        text += &row(
+            "fragment",
+            &format!("{} (the first is 0){}", fragment.number, start.unwrap_or_default()),
+        );
+    }
+    if let Some(contrast) = &reason.contrast {
+        text += &row("found", &contrast.found.words);
+        text += &row("expected", &contrast.expected.words);
+    }
+    if let Some(hint) = reason.hint {
+        text += &row("note", hint);
+    }
+    if let Some(told) = reason.section {
+        text += "\n";
+        text += &section(told, &[told.means(), told.cause(), told.remedy()]);
+    }
+    text
+}
+
+/// `moof[1]/traf/tfdt at byte 2419, size 20`, or what there is in place of a box.
+fn place(spot: &Spot, place: u64, at_end: bool) -> String {
+    match (&spot.named, &spot.around) {
+        (Some((one, path)), _) => format!("{path} at byte {place}, size {}", one.size),
+        (None, _) if at_end => format!("none: the track ends at byte {place}"),
+        (None, Some(path)) => format!("none begins at byte {place}, inside {path}"),
+        (None, None) => format!("none begins at byte {place}, at the top level"),
+    }
+}
+
+fn row(label: &str, value: &str) -> String {
+    format!("  {label:<9} {value}\n")
+}
+
+/// A section's heading and these parts of it, line by line as they are written.
+fn section(section: &Section, parts: &[Option<&Part>]) -> String {
+    let mut text = format!("{}. {}\n", section.number, section.title);
+    for part in parts.iter().flatten() {
+        text += &format!("  {}:", part.label);
+        for (nth, line) in part.lines.iter().enumerate() {
+            let first = nth == 0 && !line.starts_with("- ");
+            text += &if first { format!(" {line}") } else { format!("\n    {line}") };
+        }
+        text += "\n";
+    }
+    text
+}
+
+/// A whole section.
+pub fn explanation(told: &Section) -> String {
+    section(told, &told.parts.iter().map(Some).collect::<Vec<_>>())
+}
