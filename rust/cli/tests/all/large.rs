@@ -1,0 +1,64 @@
+//! Inputs around the limit of 1 GiB, as sparse files. One test, so that few of them are in memory at once.
+
+use crate::folder::{track_t, Folder};
+use crate::run::run;
+use std::fs::File;
+use std::io::Write;
+
+const LIMIT: u64 = 1 << 30;
+
+/// Makes a file of this length that begins with these bytes.
+fn sparse(folder: &Folder, name: &str, start: &[u8], length: u64) {
+    let mut file = File::create(folder.path(name)).unwrap();
+    file.write_all(start).unwrap();
+    file.set_len(length).unwrap();
+}
+
+/// T with one fragment and a last sample so large that the track has this length.
+fn long_track(length: u64) -> Vec<u8> {
+    let size = |last: u32| {
+        let mut bytes = track_t(1, |track| track.fragments[0].runs[0].samples[1].size = last);
+        let length = bytes.len() as u64;
+        bytes.truncate(2048);
+        (bytes, length)
+    };
+    let (_, least) = size(0);
+    let (start, reached) = size((length - least) as u32);
+    assert_eq!(reached, length);
+    start
+}
+
+#[test]
+fn around_the_limit() {
+    let folder = Folder::new("around_the_limit");
+    sparse(&folder, "longest.mp4", &long_track(LIMIT), LIMIT);
+    let ran = run(&folder, &["check", "longest.mp4"]);
+    assert_eq!(
+        (ran.status, ran.first_line()),
+        (0, "accepted tracks 1 fragments 1 timescale 90000")
+    );
+
+    sparse(&folder, "over.mp4", &[], LIMIT + 1);
+    let ran = run(&folder, &["check", "over.mp4"]);
+    assert_eq!((ran.status, ran.first_line(), ran.err.as_str()), (1, "refused 1 track 0 at 0", ""));
+    assert!(ran.out.contains("found     more than 1073741824 bytes"), "{}", ran.out);
+    let ran = run(&folder, &["boxes", "over.mp4"]);
+    assert_eq!((ran.status, ran.out.lines().count()), (1, 2), "{}", ran.out);
+
+    // Two tracks, good by themselves and too long together: the bundle has 12 bytes of its own.
+    sparse(&folder, "half.mp4", &long_track(LIMIT / 2 - 6), LIMIT / 2 - 6);
+    let ran = run(&folder, &["check", "half.mp4", "half.mp4"]);
+    assert_eq!(
+        (ran.status, ran.first_line()),
+        (0, "accepted tracks 2 fragments 1 timescale 90000")
+    );
+    sparse(&folder, "more.mp4", &long_track(LIMIT / 2 - 5), LIMIT / 2 - 5);
+    let ran = run(&folder, &["check", "--each", "half.mp4", "more.mp4", "half.mp4"]);
+    assert_eq!((ran.status, ran.first_line()), (1, "refused 1 track 0 at 0"));
+    assert_eq!(ran.out.matches(".mp4: accepted fragments 1").count(), 3, "{}", ran.out);
+
+    run(&folder, &["pack", "half.mp4", "more.mp4", "-o", "b"])
+        .assert_not_judged("over 1073741824 bytes");
+    run(&folder, &["pack", "over.mp4", "-o", "b"]).assert_not_judged("over 1073741824 bytes");
+    assert_eq!(folder.names(), ["half.mp4", "longest.mp4", "more.mp4", "over.mp4"]);
+}
