@@ -13,7 +13,7 @@ use serde_json::{json, Map, Value};
 use std::collections::BTreeMap;
 use std::ffi::{OsStr, OsString};
 use std::fs;
-use std::io::{self, BufRead, BufReader, Cursor};
+use std::io::{self, BufRead, BufReader, Cursor, IsTerminal};
 use std::os::unix::ffi::OsStrExt;
 use std::sync::mpsc::{channel, Receiver};
 use std::sync::{Condvar, Mutex, MutexGuard, PoisonError};
@@ -209,10 +209,14 @@ fn write(
     let mut worst = Status::Accepted;
     let mut next = 0;
     let mut refused = 0_u64;
+    // On one terminal the bar makes room for each line.
+    let beside_bar = io::stdout().is_terminal();
     for answer in received {
         waiting.insert(answer.nth, answer);
         while let Some(answer) = waiting.remove(&next) {
-            if bar.suspend(|| output::answer(answer.text.as_bytes()))? == Reader::Gone {
+            let write = || output::answer(answer.text.as_bytes());
+            let reader = if beside_bar { bar.suspend(write)? } else { write()? };
+            if reader == Reader::Gone {
                 return Err(Failure::new(GONE));
             }
             next += 1;

@@ -5,6 +5,7 @@ use crate::bundle::Bundle;
 use crate::facts::Track;
 use crate::failure::Failure;
 use crate::input::{open, Show};
+use crate::judge::BoxAt;
 use crate::layout::letters;
 use crate::status::Status;
 use crate::{json, output, words};
@@ -36,21 +37,14 @@ fn tree(track: &Track) -> String {
         let _ = writeln!(text, "{READ_HERE}");
     }
     let mark = format!("  <- refused {}", verdict.number);
-    // 23 points to no byte; every other refusal to one.
-    let mut place = (!verdict.is_accepted() && verdict.number != 23).then_some(verdict.place);
-    for one in &track.listing.boxes {
-        let marked = place.take_if(|place| *place == one.offset).map_or("", |_| &mark);
+    let refused = track.refused_box();
+    for (nth, one) in track.listing.boxes.iter().enumerate() {
         let indent = 2 * one.depth;
-        let _ = writeln!(
-            text,
-            "{:>12} {:>12} {:indent$}{}{marked}",
-            one.offset,
-            one.size,
-            "",
-            letters(one.kind)
-        );
+        let mark = if refused == Some(nth) { &mark } else { "" };
+        let BoxAt { offset, size, kind, .. } = one;
+        let _ = writeln!(text, "{offset:>12} {size:>12} {:indent$}{}{mark}", "", letters(*kind));
     }
-    if let Some(place) = place {
+    if let (Some(place), None) = (track.refused_place(), refused) {
         let end = place == track.bytes.len() as u64;
         let what = if end { "end of the track" } else { "no box can be read here" };
         let _ = writeln!(text, "{place:>12} {:>12} {what}{mark}", "-");

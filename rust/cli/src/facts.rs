@@ -67,6 +67,17 @@ impl<'a> Track<'a> {
     pub fn view(&self) -> View<'_> {
         View { bytes: self.bytes, boxes: &self.listing.boxes }
     }
+
+    /// The byte that the track's own refusal points to; 1 and 23 point to none.
+    pub fn refused_place(&self) -> Option<u64> {
+        let Verdict { number, place, .. } = self.alone.verdict;
+        (!matches!(number, 0 | 1 | 23)).then_some(place)
+    }
+
+    /// The number of the box that begins there.
+    pub fn refused_box(&self) -> Option<usize> {
+        self.view().at(self.refused_place()?)
+    }
 }
 
 impl Listing {

@@ -2,7 +2,7 @@
 
 use crate::facts::{Set, Track};
 use crate::found::Fact;
-use crate::judge::Judged;
+use crate::judge::{BoxAt, Judged};
 use crate::layout::letters;
 use crate::place::paths;
 use crate::reason::{Fragment, Reason};
@@ -83,6 +83,7 @@ fn refusal(reason: &Reason) -> Object {
             json!({"path": path, "type": letters(one.kind), "offset": one.offset, "size": one.size})
         }),
     );
+    put("end", reason.at_end.then(|| json!(true)));
     put("around", reason.spot.around.as_ref().map(|path| json!(path)));
     put("fragment", reason.fragment.map(fragment));
     put("found", reason.contrast.as_ref().map(|contrast| fact(&contrast.found)));
@@ -118,15 +119,22 @@ fn fact(fact: &Fact) -> Value {
 
 /// The boxes of a track.
 pub fn boxes(track: &Track) -> Object {
+    let boxes = &track.listing.boxes;
+    let refused = track.refused_box();
+    let row = |(nth, path): (usize, String)| {
+        let BoxAt { offset, size, kind, depth } = boxes[nth];
+        let mut row = json!({
+            "offset": offset, "size": size, "type": letters(kind), "depth": depth, "path": path,
+        });
+        if refused == Some(nth) {
+            row["refused"] = json!(true);
+        }
+        row
+    };
     let mut object = verdict(&track.alone.verdict);
     object.insert("file".into(), json!(track.name));
     object.insert("listed".into(), json!(if track.listing.proved { "index" } else { "bytes" }));
-    let rows = track.listing.boxes.iter().zip(paths(&track.listing.boxes)).map(|(one, path)| {
-        json!({
-            "offset": one.offset, "size": one.size, "type": letters(one.kind), "depth": one.depth, "path": path,
-        })
-    });
-    object.insert("boxes".into(), rows.collect());
+    object.insert("boxes".into(), paths(boxes).into_iter().enumerate().map(row).collect());
     object
 }
 

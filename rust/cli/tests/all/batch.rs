@@ -83,7 +83,8 @@ fn a_long_list_keeps_its_order() {
     let folder = folder("a_long_list_keeps_its_order");
     // A large file among small ones, so that answers overtake each other.
     std::fs::File::create(folder.path("large")).unwrap().set_len(32 << 20).unwrap();
-    let name = |nth: usize| if nth % 97 == 0 { "large" } else { ["a.mp4", "bad.mp4"][nth % 2] };
+    let name =
+        |nth: usize| if nth.is_multiple_of(97) { "large" } else { ["a.mp4", "bad.mp4"][nth % 2] };
     let list: String = (0..3000).map(|nth| name(nth).to_owned() + "\n").collect();
     let ran = run_with(&folder, &["batch", "--jobs", "4", "--boundaries", "-"], list.as_bytes());
     assert_eq!((ran.status, ran.err.as_str()), (1, ""));

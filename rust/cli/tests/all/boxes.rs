@@ -57,7 +57,10 @@ fn bad_framing_is_read_up_to_the_place() {
     assert!(ran.out.ends_with("        2563          816 mdat  <- refused 4\n"), "{}", ran.out);
     let object = run(&folder, &["boxes", "--json", "bad-cut-upload-0.mp4"]).json();
     assert_eq!((object["listed"].as_str(), object["place"].as_u64()), (Some("bytes"), Some(2563)));
-    assert_eq!(object["boxes"].as_array().unwrap().last().unwrap()["path"], "mdat[1]");
+    let boxes = object["boxes"].as_array().unwrap();
+    let last = boxes.last().unwrap();
+    assert_eq!((last["path"].as_str(), last["refused"].as_bool()), (Some("mdat[1]"), Some(true)));
+    assert_eq!(boxes.iter().filter(|one| one.get("refused").is_some()).count(), 1);
 }
 
 #[test]

@@ -123,17 +123,21 @@ fn each_file_by_itself() {
     let names = [good, clock, brand].concat();
     let ran = run(&folder, &with_names(&["check", "--each"], &names));
     assert_eq!(ran.status, 1);
-    let expected = "\
-refused 19 track 1 at 2419
-
-Each file by itself:
-  good-h264-0.mp4: accepted fragments 4 timescale 90000
-  bad-time-plus-one-0.mp4: refused 19 at 2419 (moof[1]/traf/tfdt): Decode time does not continue
-  bad-brand-0.mp4: refused 9 at 0 (ftyp): No CMAF brand
-
-  file      bad-time-plus-one-0.mp4
-";
-    assert!(ran.out.starts_with(expected), "{}", ran.out);
+    let expected = [
+        "refused 19 track 1 at 2419",
+        "",
+        "Each file by itself:",
+        "  good-h264-0.mp4: accepted fragments 4 timescale 90000",
+        "  bad-time-plus-one-0.mp4: refused 19 at 2419 (moof[1]/traf/tfdt): ",
+        "  bad-brand-0.mp4: refused 9 at 0 (ftyp): ",
+        "",
+        "  file      bad-time-plus-one-0.mp4",
+    ];
+    assert!(ran.out.lines().count() > expected.len(), "{}", ran.out);
+    // The title of the number follows, as REFUSALS.md has it.
+    for (line, start) in ran.out.lines().zip(expected) {
+        assert!(line.starts_with(start) && line.is_empty() == start.is_empty(), "{line}");
+    }
 
     let object = run(&folder, &with_names(&["check", "--each", "--json"], &names)).json();
     let numbers: Vec<_> =
