@@ -83,7 +83,7 @@ fn refusal(reason: &Reason) -> Object {
             json!({"path": path, "type": letters(one.kind), "offset": one.offset, "size": one.size})
         }),
     );
-    put("end", reason.at_end.then(|| json!(true)));
+    put("end", reason.at_end.then_some(Value::Bool(true)));
     put("around", reason.spot.around.as_ref().map(|path| json!(path)));
     put("fragment", reason.fragment.map(fragment));
     put("found", reason.contrast.as_ref().map(|contrast| fact(&contrast.found)));
@@ -141,4 +141,64 @@ pub fn boxes(track: &Track) -> Object {
 /// One line.
 pub fn line(object: Object) -> String {
     format!("{}\n", Value::Object(object))
+}
+
+#[cfg(test)]
+mod tests {
+    use super::*;
+    use crate::bundle::Bundle;
+    use maker::bundle::record;
+    use maker::cases::Job;
+    use maker::examples::examples;
+    use std::collections::BTreeSet;
+
+    const PAGE: &str = include_str!("../../../docs/JSON.md");
+
+    fn collect(value: &Value, names: &mut BTreeSet<String>) {
+        match value {
+            Value::Object(object) => object.iter().for_each(|(name, value)| {
+                assert!(!value.is_null(), "{name} is left out, not null");
+                names.insert(name.clone());
+                collect(value, names);
+            }),
+            Value::Array(values) => values.iter().for_each(|value| collect(value, names)),
+            _ => (),
+        }
+    }
+
+    /// Every field that any example gives is on the page, and every kind of object was looked at.
+    #[test]
+    fn fields_are_documented() {
+        let mut names = BTreeSet::new();
+        let mut add = |object: Object| collect(&Value::Object(object), &mut names);
+        for example in examples() {
+            let bytes = example.case.bytes;
+            let set = match example.case.job {
+                Job::Set => Set::of_bundle("set".to_owned(), Bundle::packed(bytes)),
+                _ => Set::of_files(vec!["track".to_owned()], Bundle::packed(record(&bytes))),
+            };
+            add(about(&set, Reason::of_set(&set).as_ref(), true));
+            if let Some(track) = set.track(0) {
+                add(boxes(&track));
+            }
+        }
+        add(not_judged(&[], "why"));
+        for name in &names {
+            assert!(PAGE.contains(&format!("`{name}`")), "{name} is not in JSON.md");
+        }
+        let some = [
+            "around",
+            "boundaries",
+            "depth",
+            "end",
+            "error",
+            "expected",
+            "path",
+            "refused",
+            "seconds",
+        ];
+        for name in some {
+            assert!(names.contains(name), "{name} is never there");
+        }
+    }
 }
