@@ -222,9 +222,29 @@ mod tests {
             assert_ne!(contrast.found, contrast.expected, "{name}");
             assert_ne!(contrast.found.number, contrast.expected.number, "{name}");
         }
+        let (found, expected) = (&contrast.found, &contrast.expected);
+        match number {
+            // Of the right size, so of a wrong version.
+            15 if found.number == expected.number => {
+                let version = found.words.rsplit(' ').next().unwrap();
+                let (_, allowed) = expected.words.rsplit_once("version ").unwrap();
+                assert!(
+                    !allowed.split(' ').any(|one| one == version),
+                    "{name}: {found:?} {expected:?}"
+                );
+            }
+            18 => assert!(!(1..=65_536).contains(&found.number.unwrap()), "{name}: {found:?}"),
+            21 => assert_ne!(found.number.unwrap() & 0x1_0000, 0, "{name}: {found:?}"),
+            25 => assert!(!expected.words.starts_with(&found.words), "{name}: {found:?}"),
+            12 => assert!(
+                !expected.words.contains(&found.words["handler ".len()..]),
+                "{name}: {found:?}"
+            ),
+            _ => (),
+        }
         // The side of the bound on which the rule is broken.
         if let (3 | 4 | 20 | 24, Some(found), Some(expected)) =
-            (number, contrast.found.number, contrast.expected.number)
+            (number, found.number, expected.number)
         {
             assert_eq!(found < expected, number == 3, "{name}: {found} {expected}");
         }
