@@ -18,6 +18,7 @@
  *
  * No function allocates, keeps a pointer, reads outside its arguments or fails to return.
  * Lengths may be 0; no pointer may be null, and `data`, `table` and `verdict` must not overlap.
+ * Several threads may call at once.
  */
 #ifndef FLANGEMINT_H
 #define FLANGEMINT_H
@@ -29,6 +30,25 @@
 extern "C" {
 #endif
 
+#define FLANGEMINT_VERSION "0.1.0"
+#define FLANGEMINT_VERSION_MAJOR 0
+#define FLANGEMINT_VERSION_MINOR 1
+#define FLANGEMINT_VERSION_PATCH 0
+
+#define FLANGEMINT_MAX_BYTES 1073741824 /* of a slice, a track or a bundle: rule 1 */
+#define FLANGEMINT_MAX_BOXES 4096       /* of a slice: rule 5 */
+#define FLANGEMINT_MAX_TRACKS 16        /* of a bundle: rule 24 */
+
+/*
+ * How many numbers a table needs so that it is never too short. The index has four a box. Of an accepted
+ * track's boxes at least 20 are the header's (ftyp, moov, mvhd, trak, tkhd, mdia, mdhd, hdlr, minf, its media
+ * header, dinf, dref, stbl, stsd, stts, stsc, stsz, stco, mvex, trex), and each fragment has at least 7 (moof,
+ * mfhd, traf, tfhd, tfdt, trun, mdat); there is one boundary more than there are fragments. The tracks of an
+ * accepted set share theirs.
+ */
+#define FLANGEMINT_INDEX_ROOM (4 * FLANGEMINT_MAX_BOXES)
+#define FLANGEMINT_TRACK_ROOM ((FLANGEMINT_MAX_BOXES - 20) / 7 + 1)
+
 /* What verdict[0] says; the comment ends with the byte that verdict[2] points to. */
 enum flangemint_number {
     FLANGEMINT_ACCEPTED = 0,            /* every rule holds: 0 */
@@ -37,7 +57,7 @@ enum flangemint_number {
     FLANGEMINT_SMALL_SIZE = 3,          /* box size 0, or below its own header: the box */
     FLANGEMINT_BEYOND_PARENT = 4,       /* box ends beyond its parent: the box */
     FLANGEMINT_TOO_MANY_BOXES = 5,      /* bytes remain after 4,096 boxes: the next box's start */
-    FLANGEMINT_ORDER = 6,               /* top level not ftyp, moov, pairs of moof and mdat: the first wrong box, or the length */
+    FLANGEMINT_ORDER = 6,               /* not ftyp, moov, pairs of moof and mdat: the first wrong box, or the length */
     FLANGEMINT_HEADER_COUNT = 7,        /* header box missing or extra: its container, or the first extra box */
     FLANGEMINT_HEADER_BODY = 8,         /* header box of a wrong size or version: the box */
     FLANGEMINT_BRAND = 9,               /* neither cmfc nor cmf2 among the compatible brands: ftyp */
@@ -70,6 +90,45 @@ void flangemint_track(const uint8_t *data, size_t len, uint64_t *table, size_t r
 
 /* Checks a switching set, a bundle of 1 to 16 tracks: numbers 0 to 28. */
 void flangemint_set(const uint8_t *data, size_t len, uint64_t *table, size_t room, uint64_t verdict[5]);
+
+/* What a number of enum flangemint_number means, in one sentence; for any other number a sentence that says so. */
+const char *flangemint_sentence(uint64_t number);
+
+/* The five numbers by name, and the three checks with them as answer. */
+struct flangemint_verdict {
+    uint64_t number, track, place, count, timescale;
+};
+
+static inline struct flangemint_verdict flangemint_named(const uint64_t verdict[5]) {
+    struct flangemint_verdict named;
+    named.number = verdict[0];
+    named.track = verdict[1];
+    named.place = verdict[2];
+    named.count = verdict[3];
+    named.timescale = verdict[4];
+    return named;
+}
+
+static inline struct flangemint_verdict flangemint_check_index(const uint8_t *data, size_t len, uint64_t *table,
+                                                               size_t room) {
+    uint64_t verdict[5];
+    flangemint_index(data, len, table, room, verdict);
+    return flangemint_named(verdict);
+}
+
+static inline struct flangemint_verdict flangemint_check_track(const uint8_t *data, size_t len, uint64_t *table,
+                                                               size_t room) {
+    uint64_t verdict[5];
+    flangemint_track(data, len, table, room, verdict);
+    return flangemint_named(verdict);
+}
+
+static inline struct flangemint_verdict flangemint_check_set(const uint8_t *data, size_t len, uint64_t *table,
+                                                             size_t room) {
+    uint64_t verdict[5];
+    flangemint_set(data, len, table, room, verdict);
+    return flangemint_named(verdict);
+}
 
 #ifdef __cplusplus
 }
