@@ -1,7 +1,7 @@
 //! Links libflangemint.a, if there is one for the target, and says so by `cfg(linked)`.
 //!
 //! In `$FLANGEMINT_LIB_DIR` there must be one. Without that variable it is the
-//! repository's own, in `target/staticlib`, and that one is for x86-64 alone.
+//! repository's own for this machine, in `target/native`.
 
 use std::env;
 use std::path::PathBuf;
@@ -21,13 +21,14 @@ fn main() {
         }
         return;
     }
+    let host = env::var("HOST").expect("cargo sets it");
     let machine = env::var("CARGO_CFG_TARGET_ARCH").expect("cargo sets it");
-    if machine != "x86_64" {
-        println!("cargo::warning=no archive is linked: {ARCHIVE} is for x86-64, this is {machine}");
-    } else if !link(manifest.join("../../target/staticlib")) {
+    if host.split('-').next() != Some(&machine) {
+        println!("cargo::warning=no archive is linked: target/native is for {host}, this is {machine}");
+    } else if !link(manifest.join("../../target/native")) {
         println!(
-            "cargo::warning=no archive is linked: target/staticlib has no {ARCHIVE}; \
-             `rt staticlib flangemint` makes it"
+            "cargo::warning=no archive is linked: target/native has no {ARCHIVE}; \
+             `make archive` makes it"
         );
     }
 }
