@@ -49,8 +49,8 @@ sentences: ## flangemint_sentence against docs/REFUSALS.md (a C compiler, python
 	CC='$(CC)' tools/sentences check
 
 python-test: archive ## the Python module, its page and its tests (python3)
-	PYTHONPATH=python python3 -m doctest python/README.md python/flangemint.py
-	PYTHONPATH=python python3 -m unittest --quiet python/test_flangemint.py
+	PYTHONPATH=python python3 -B -m doctest python/README.md python/flangemint.py
+	PYTHONPATH=python python3 -B -m unittest --quiet python/test_flangemint.py
 
 test-scripts: ## ./intake, ./pack and ./flangemint as they are called: statuses, streams, builds
 	tools/test-scripts
