@@ -24,7 +24,9 @@ fn main() {
     let host = env::var("HOST").expect("cargo sets it");
     let machine = env::var("CARGO_CFG_TARGET_ARCH").expect("cargo sets it");
     if host.split('-').next() != Some(&machine) {
-        println!("cargo::warning=no archive is linked: target/native is for {host}, this is {machine}");
+        println!(
+            "cargo::warning=no archive is linked: target/native is for {host}, this is {machine}"
+        );
     } else if !link(manifest.join("../../target/native")) {
         println!(
             "cargo::warning=no archive is linked: target/native has no {ARCHIVE}; \

@@ -7,10 +7,12 @@
 
 #[cfg(linked)]
 mod calls;
+mod limits;
 mod refusal;
 mod verdict;
 
 #[cfg(linked)]
 pub use calls::{check_index, check_set, check_track};
+pub use limits::{INDEX_ROOM, MAX_BOXES, MAX_BYTES, MAX_TRACKS, TRACK_ROOM, VERSION};
 pub use refusal::{Refusal, UnknownNumber};
 pub use verdict::Verdict;

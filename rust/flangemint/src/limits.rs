@@ -1,0 +1,19 @@
+//! How much there can be, as in include/flangemint.h, which says how the rooms follow.
+
+/// Bytes of a slice, a track or a bundle: rule 1.
+pub const MAX_BYTES: usize = 1_073_741_824;
+
+/// Boxes of a slice: rule 5.
+pub const MAX_BOXES: usize = 4096;
+
+/// Tracks of a bundle: rule 24.
+pub const MAX_TRACKS: usize = 16;
+
+/// Numbers in a table that is never too short for the index.
+pub const INDEX_ROOM: usize = 4 * MAX_BOXES;
+
+/// Numbers in a table that is never too short for a track or a set.
+pub const TRACK_ROOM: usize = (MAX_BOXES - 20) / 7 + 1;
+
+/// The version of the library.
+pub const VERSION: &str = env!("CARGO_PKG_VERSION");
