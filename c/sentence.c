@@ -4,7 +4,8 @@
 const char *flangemint_sentence(uint64_t number) {
     static const char *const sentences[] = {
         "Every rule holds, for each track and between the tracks.",
-        "The slice is over 1,073,741,824 bytes (1 GiB).",
+        "The track is over 1,073,741,824 bytes (1 GiB), or the bundle is: the tracks of a set count together, "
+        "with six bytes a track for mark and length.",
         "A box should begin here, but only 1 to 7 bytes are left in its container or in the track; or the "
         "size field is 1, which announces a 16-byte header, and fewer than 16 bytes are left.",
         "The size field is 0 or 2 to 7, or a long size is under 16.",
