@@ -11,7 +11,7 @@ fn main() {
     println!("cargo::rerun-if-env-changed=FLANGEMINT_KIT");
     if env::var_os("DEP_FLANGEMINT_LINKED").is_none() {
         println!(
-            "cargo::error=the command needs libflangemint.a: `rt staticlib flangemint` makes it"
+            "cargo::error=the command needs libflangemint.a: `make archive` makes it"
         );
     }
     let manifest = fs::read_to_string(LIBRARY).unwrap_or_default();
