@@ -6,7 +6,7 @@ use crate::check::open_set;
 use crate::failure::Failure;
 use crate::input::{shown, Show};
 use crate::judge::MOST_BYTES;
-use crate::output;
+use crate::output::{self, Reader};
 use crate::status::Status;
 use std::ffi::{OsStr, OsString};
 use std::fs::{self, File, OpenOptions};
@@ -22,8 +22,11 @@ pub fn run(args: &Pack) -> Result<Status, Failure> {
         return Err(Failure::new(format!("the bundle would be over {MOST_BYTES} bytes")));
     }
     if args.output == "-" {
-        output::answer(bundle.bytes())?;
-        return Ok(Status::Accepted);
+        // A reader that left has half a bundle.
+        return match output::answer(bundle.bytes())? {
+            Reader::There => Ok(Status::Accepted),
+            Reader::Gone => Err(Failure::new("standard output was closed before the bundle's end")),
+        };
     }
     refuse_input(&args.output, &args.files)?;
     let written = write(Path::new(&args.output), bundle.bytes());
