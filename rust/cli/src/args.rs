@@ -3,7 +3,7 @@
 use clap::{Parser, Subcommand};
 use std::ffi::OsString;
 
-const VERSION: &str = concat!(
+pub const VERSION: &str = concat!(
     env!("CARGO_PKG_VERSION"),
     "\nlibrary ",
     env!("FLANGEMINT_LIBRARY"),
@@ -20,6 +20,7 @@ Examples:
   flangemint check low.mp4 mid.mp4 high.mp4     does this ladder switch?
   flangemint check --each *.mp4                 and what is wrong with each file?
   flangemint boxes low.mp4                      the boxes, the refused one marked
+  flangemint report *.mp4 -o page.html          a page that shows where the ladder breaks
   flangemint explain 19                         what a number means and what to do
   flangemint pack low.mp4 high.mp4 -o set.bundle
   flangemint batch sets.txt > verdicts.jsonl    a whole archive, a set a line
@@ -45,6 +46,15 @@ Examples:
   flangemint boxes --json video.mp4 | jq '.boxes[] | select(.type == \"moof\") | .offset'
 
 A line a box: offset, size, type, indented by depth. The first line is the verdict.
+";
+
+const REPORT: &str = "\
+Examples:
+  flangemint report low.mp4 mid.mp4 high.mp4 -o page.html
+  flangemint report video.mp4 -o - > page.html
+
+One page with all that it needs: the verdict, a picture of every track's boundaries with the place
+where they part, the boxes and bytes around it. It is there whole, or (status 2) not at all.
 ";
 
 const EXPLAIN: &str = "\
@@ -83,6 +93,7 @@ pub struct Args {
 pub enum Command {
     Check(Check),
     Boxes(Boxes),
+    Report(Report),
     Explain(Explain),
     Pack(Pack),
     Batch(Batch),
@@ -119,6 +130,18 @@ pub struct Boxes {
     /// One JSON object (docs/JSON.md)
     #[arg(long)]
     pub json: bool,
+}
+
+/// Judge a track or a set as `check` does, and write a page that shows why
+#[derive(clap::Args)]
+#[command(after_help = format!("{REPORT}{STATUS}"))]
+pub struct Report {
+    /// Track files; - is standard input
+    #[arg(required = true, value_name = "FILE")]
+    pub files: Vec<OsString>,
+    /// Where the page goes; - is standard output
+    #[arg(short, long, value_name = "PAGE")]
+    pub output: OsString,
 }
 
 /// Explain a verdict number: what it means, what causes it, what to do

@@ -11,7 +11,7 @@ use crate::status::Status;
 use crate::{json, output, words};
 use std::fmt::Write;
 
-const READ_HERE: &str = "\
+pub const READ_HERE: &str = "\
 The framing is refused, so the proved index lists nothing: the command itself read these boxes from
 the bytes.";
 
@@ -45,9 +45,16 @@ fn tree(track: &Track) -> String {
         let _ = writeln!(text, "{offset:>12} {size:>12} {:indent$}{}{mark}", "", letters(*kind));
     }
     if let (Some(place), None) = (track.refused_place(), refused) {
-        let end = place == track.bytes.len() as u64;
-        let what = if end { "end of the track" } else { "no box can be read here" };
-        let _ = writeln!(text, "{place:>12} {:>12} {what}{mark}", "-");
+        let _ = writeln!(text, "{place:>12} {:>12} {}{mark}", "-", in_place_of_box(track, place));
     }
     text
+}
+
+/// What is said at a refused place where no box begins.
+pub fn in_place_of_box(track: &Track, place: u64) -> &'static str {
+    if place == track.bytes.len() as u64 {
+        "end of the track"
+    } else {
+        "no box can be read here"
+    }
 }

@@ -23,6 +23,7 @@ mod place;
 mod progress;
 mod reason;
 mod refusals;
+mod report;
 mod samples;
 mod status;
 mod time;
@@ -53,6 +54,7 @@ fn run(command: &Command) -> Result<Status, Failure> {
     match command {
         Command::Check(args) => check::run(args),
         Command::Boxes(args) => boxes::run(args),
+        Command::Report(args) => report::run(args),
         Command::Explain(args) => explain::run(args),
         Command::Pack(args) => pack::run(args),
         Command::Batch(args) => batch::run(args),

@@ -1,4 +1,4 @@
-//! `flangemint pack`: track files as one bundle, written whole or not at all.
+//! `flangemint pack`: track files as one bundle, and how an output is written: whole or not at all.
 
 use crate::args::Pack;
 use crate::bundle::Bundle;
@@ -21,20 +21,24 @@ pub fn run(args: &Pack) -> Result<Status, Failure> {
     if bundle.bytes().len() > MOST_BYTES {
         return Err(Failure::new(format!("the bundle would be over {MOST_BYTES} bytes")));
     }
-    if args.output == "-" {
+    match put(&args.output, &args.files, bundle.bytes())? {
+        Reader::There => Ok(Status::Accepted),
         // A reader that left has half a bundle.
-        return match output::answer(bundle.bytes())? {
-            Reader::There => Ok(Status::Accepted),
-            Reader::Gone => Err(Failure::new("standard output was closed before the bundle's end")),
-        };
+        Reader::Gone => Err(Failure::new("standard output was closed before the bundle's end")),
     }
-    refuse_input(&args.output, &args.files)?;
-    let written = write(Path::new(&args.output), bundle.bytes());
-    written.map_err(|error| Failure::about(&shown(&args.output), &error))?;
-    Ok(Status::Accepted)
 }
 
-/// A track must not be lost to the bundle that it goes into.
+/// Writes what was made of files, `-` to standard output; says whether somebody got it.
+pub fn put(output: &OsStr, files: &[OsString], bytes: &[u8]) -> Result<Reader, Failure> {
+    if output == "-" {
+        return output::answer(bytes);
+    }
+    refuse_input(output, files)?;
+    let written = write(Path::new(output), bytes);
+    written.map(|()| Reader::There).map_err(|error| Failure::about(&shown(output), &error))
+}
+
+/// A track must not be lost to what is made of it.
 fn refuse_input(output: &OsStr, files: &[OsString]) -> Result<(), Failure> {
     let Ok(target) = fs::metadata(output) else { return Ok(()) };
     let same = |file: &&OsString| {
@@ -65,7 +69,7 @@ fn write(target: &Path, bytes: &[u8]) -> io::Result<()> {
     written
 }
 
-/// A name for the unfinished bundle, in the target's folder.
+/// A name for the unfinished output, in the target's folder.
 fn beside(target: &Path) -> io::Result<PathBuf> {
     let name = target.file_name().ok_or(io::ErrorKind::InvalidInput)?;
     let mut hidden = OsString::from(".");

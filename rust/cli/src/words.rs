@@ -47,16 +47,24 @@ pub fn alone(name: &str, verdict: &Verdict, reason: Option<&Reason>) -> String {
     format!("{name}: refused {number} at {place}{spot}: {title}")
 }
 
-fn acceptance(set: &Set, all: bool) -> String {
-    let mut text = String::new();
-    for name in &set.names {
-        text += &row("file", name);
-    }
+/// A label and what stands behind it.
+pub type Row = (&'static str, String);
+
+/// What is said about an accepted set before its boundaries.
+pub fn accepted(set: &Set) -> Vec<Row> {
+    let mut rows: Vec<Row> = set.names.iter().map(|name| ("file", name.clone())).collect();
     let Judged { verdict, boundaries } = &set.judged;
     let time = |ticks: u64| seconds(ticks, verdict.timescale);
     if let (Some(first), Some(last)) = (boundaries.first(), boundaries.last()) {
-        text += &row("time", &format!("{} to {}", time(*first), time(*last)));
+        rows.push(("time", format!("{} to {}", time(*first), time(*last))));
     }
+    rows
+}
+
+fn acceptance(set: &Set, all: bool) -> String {
+    let mut text = lines(&accepted(set));
+    let Judged { verdict, boundaries } = &set.judged;
+    let time = |ticks: u64| seconds(ticks, verdict.timescale);
     text += "\nBoundaries, in ticks and seconds:\n";
     let width = boundaries.last().map_or(0, |last| time(*last).len().max(last.to_string().len()));
     let shown = if all { boundaries.len() } else { SHOWN };
@@ -69,34 +77,34 @@ fn acceptance(set: &Set, all: bool) -> String {
     text
 }
 
-fn refusal(verdict: &Verdict, reason: &Reason) -> String {
-    let mut text = row("file", &reason.file);
+/// What is said about a refusal before its section.
+pub fn refused(verdict: &Verdict, reason: &Reason) -> Vec<Row> {
+    let mut rows = vec![("file", reason.file.clone())];
     match verdict.number {
         // No byte of a track is meant.
         1 | 23 => (),
-        24 => {
-            text += &row(
-                "record",
-                &format!("number {}, at byte {} of the bundle", verdict.track, verdict.place),
-            )
-        }
-        _ => text += &row("box", &place(&reason.spot, verdict.place, reason.at_end)),
+        24 => rows.push((
+            "record",
+            format!("number {}, at byte {} of the bundle", verdict.track, verdict.place),
+        )),
+        _ => rows.push(("box", place(&reason.spot, verdict.place, reason.at_end))),
     }
     if let Some(fragment) = reason.fragment {
         let start =
             fragment.start.map(|start| format!(", at {}", seconds(start.ticks, start.timescale)));
-        text += &row(
-            "fragment",
-            &format!("{} (the first is 0){}", fragment.number, start.unwrap_or_default()),
-        );
+        let start = start.unwrap_or_default();
+        rows.push(("fragment", format!("{} (the first is 0){start}", fragment.number)));
     }
     if let Some(contrast) = &reason.contrast {
-        text += &row("found", &contrast.found.words);
-        text += &row("expected", &contrast.expected.words);
+        rows.push(("found", contrast.found.words.clone()));
+        rows.push(("expected", contrast.expected.words.clone()));
     }
-    if let Some(hint) = reason.hint {
-        text += &row("note", hint);
-    }
+    rows.extend(reason.hint.map(|hint| ("note", hint.to_owned())));
+    rows
+}
+
+fn refusal(verdict: &Verdict, reason: &Reason) -> String {
+    let mut text = lines(&refused(verdict, reason));
     if let Some(told) = reason.section {
         text += "\n";
         text += &section(told, &[told.means(), told.cause(), told.remedy()]);
@@ -114,8 +122,8 @@ fn place(spot: &Spot, place: u64, at_end: bool) -> String {
     }
 }
 
-fn row(label: &str, value: &str) -> String {
-    format!("  {label:<9} {value}\n")
+fn lines(rows: &[Row]) -> String {
+    rows.iter().map(|(label, value)| format!("  {label:<9} {value}\n")).collect()
 }
 
 /// A section's heading and these parts of it, line by line as they are written.

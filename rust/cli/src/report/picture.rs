@@ -1,0 +1,315 @@
+//! The picture: every track's boundaries over time, a row a track, with the place where they part.
+
+use super::html;
+use super::lens;
+use super::mark::{Mark, Place};
+use super::rows::{Read, Row};
+use super::scale::Scale;
+use super::svg::{shortened, width, Anchor, Svg, LETTER};
+use std::fmt::Write;
+
+const WIDTH: f64 = 1080.0;
+/// Names stand left of it.
+pub const LEFT: f64 = 226.0;
+pub const PLOT: f64 = 730.0;
+/// What is said at the end of a row stands from here on.
+pub const AFTER: f64 = LEFT + PLOT + 14.0;
+/// Letters of a name.
+const NAME: usize = 23;
+/// The axis stands above the rows.
+const TOP: f64 = 34.0;
+/// Lines nearer to each other than this can't be told apart.
+const NEAREST: f64 = 2.5;
+
+const PATTERNS: &str = r#"<defs>
+<pattern id="hatch" width="6" height="6" patternUnits="userSpaceOnUse" patternTransform="rotate(45)">
+<rect class="hatch-ground" width="6" height="6"/><path class="hatch-line" d="M0 0V6"/></pattern>
+</defs>
+"#;
+
+pub struct Picture {
+    /// One `svg` element.
+    pub svg: String,
+    /// Where boundaries are too near to each other to have a line each.
+    pub thinned: bool,
+}
+
+/// Draws the rows; `about` says in words what is to be seen.
+pub fn picture(rows: &[Row], mark: Option<&Mark>, about: &str) -> Picture {
+    let mut svg = Svg::default();
+    let pitch = match rows.len() {
+        0..=6 => 34.0,
+        7..=10 => 28.0,
+        _ => 23.0,
+    };
+    let scale = extent(rows, mark);
+    let bottom = TOP + pitch * rows.len() as f64;
+    let mut thinned = false;
+    if let Some(scale) = &scale {
+        axis(&mut svg, scale, bottom);
+    }
+    for (nth, row) in rows.iter().enumerate() {
+        let line = Line { y: TOP + pitch * nth as f64 + pitch / 2.0, height: pitch * 0.5 };
+        let refused = mark.is_some_and(|mark| mark.row == nth);
+        name(&mut svg, nth, row, line, refused);
+        let class = if refused { "says refused-text" } else { "says" };
+        let cross = if refused { "✕ " } else { "" };
+        svg.text(class, AFTER, line.y + 4.0, Anchor::Start, &format!("{cross}{}", row.says));
+        match &scale {
+            Some(scale) if !row.is_empty() => {
+                thinned |= bars(&mut svg, row, scale, line);
+                numbers(&mut svg, row, scale, line);
+                arrows(&mut svg, row, scale, line);
+            }
+            _ => {
+                svg.text("nothing", LEFT + 8.0, line.y + 4.0, Anchor::Start, "no fragment to draw")
+            }
+        }
+    }
+    let mut height = bottom + 8.0;
+    if let Some(mark) = mark {
+        let line = Line { y: TOP + pitch * mark.row as f64 + pitch / 2.0, height: pitch * 0.5 };
+        height = point(&mut svg, rows, mark, scale.as_ref(), line, (pitch, bottom));
+    }
+    if let (Some(mark), Some(scale)) = (mark, &scale) {
+        height = lens::lens(&mut svg, rows, mark, scale, height);
+    }
+    let mut text = String::new();
+    let _ = writeln!(
+        text,
+        r#"<svg viewBox="0 0 {WIDTH} {height:.0}" role="img" aria-labelledby="picture-title picture-about">"#
+    );
+    let title = "Boundaries of every track over time";
+    let _ = writeln!(text, r#"<title id="picture-title">{title}</title>"#);
+    let _ = writeln!(text, r#"<desc id="picture-about">{}</desc>"#, html::text(about));
+    Picture { svg: text + PATTERNS + &svg.0 + "</svg>\n", thinned }
+}
+
+/// Where a row is drawn: its middle and its height.
+#[derive(Clone, Copy)]
+pub struct Line {
+    pub y: f64,
+    pub height: f64,
+}
+
+impl Line {
+    fn top(self) -> f64 {
+        self.y - self.height / 2.0
+    }
+
+    fn bottom(self) -> f64 {
+        self.y + self.height / 2.0
+    }
+}
+
+/// The track's number and name.
+pub fn name(svg: &mut Svg, nth: usize, row: &Row, line: Line, refused: bool) {
+    let y = line.y + 4.0;
+    svg.text("number", 18.0, y, Anchor::End, &nth.to_string());
+    let class = if refused { "name refused-text" } else { "name" };
+    svg.name(class, 28.0, y, &shortened(row.label, NAME), row.name);
+}
+
+/// The time from the first to the last tick that is worth drawing. What the bytes say without being
+/// judged may be far off; that is left out and an arrow stands for it.
+fn extent(rows: &[Row], mark: Option<&Mark>) -> Option<Scale> {
+    let drawn = || rows.iter().filter(|row| !row.is_empty() && row.timescale != 0);
+    let timescale = drawn().next()?.timescale;
+    let ticks = |row: &Row, ticks: u64| row.at(ticks).in_ticks_of(timescale);
+    let judged = || drawn().flat_map(|row| row.judged.iter().map(|at| ticks(row, *at)));
+    let read = || {
+        drawn().flat_map(|row| {
+            row.read.iter().map(|read| (ticks(row, read.start), ticks(row, read.end)))
+        })
+    };
+    let length = |row: &Row| {
+        let judged =
+            row.judged.last().zip(row.judged.first()).map_or(0, |(last, first)| last - first);
+        let read = row.read.iter().map(|read| i128::from(read.end - read.start)).sum::<i128>();
+        (i128::from(judged) + read) * i128::from(timescale) / i128::from(row.timescale)
+    };
+    let reach = 2 * drawn().map(length).max()?;
+    let first = judged().min().or_else(|| read().map(|(start, _)| start).next())?;
+    let last = judged().max().unwrap_or(first);
+    let near = read().filter(|(start, end)| first - start <= reach && end - last <= reach);
+    let (mut from, mut to) =
+        near.fold((first, last), |(from, to), (start, end)| (from.min(start), to.max(end)));
+    if let Some(Mark { row, place: Place::Fragment { start, end: None }, .. }) = mark {
+        // Room for a fragment whose end can't be read.
+        let row = &rows[*row];
+        let start = ticks(row, *start);
+        let length = row.length_before(u64::MAX).map_or(0, |length| ticks(row, length));
+        from = from.min(start);
+        to = to.max(start + length);
+    }
+    Some(Scale { from, to: to.max(from + 1), timescale, left: LEFT, width: PLOT })
+}
+
+fn axis(svg: &mut Svg, scale: &Scale, bottom: f64) {
+    svg.text("axis", 28.0, 16.0, Anchor::Start, "seconds");
+    let longest = scale.seconds(2).iter().map(|(_, label)| width(label)).fold(0.0, f64::max);
+    let most = (PLOT / (longest + 3.0 * LETTER)).clamp(2.0, 10.0) as usize;
+    let labels = scale.seconds(most);
+    let xs: Vec<f64> = labels.iter().map(|(x, _)| *x).collect();
+    svg.verticals("grid", &xs, (TOP - 10.0, bottom));
+    for (x, label) in &labels {
+        svg.text("axis", *x, 16.0, Anchor::Middle, label);
+    }
+}
+
+/// A track's fragments: judged ones as one bar, unjudged ones as others, a line at each boundary.
+/// Answers whether lines were left out, as they could not be told apart.
+pub fn bars(svg: &mut Svg, row: &Row, scale: &Scale, line: Line) -> bool {
+    let x = |ticks: u64| scale.x(row.at(ticks));
+    let mut bar = |class: &str, start: u64, end: u64| {
+        let inside = x(end) >= scale.left && x(start) <= scale.right();
+        if inside {
+            let ends = (scale.x_inside(row.at(start)), scale.x_inside(row.at(end)));
+            svg.rect(class, ends, line.top(), line.height);
+        }
+    };
+    if let (Some(first), Some(last)) = (row.judged.first(), row.judged.last()) {
+        bar("judged", *first, *last);
+    }
+    for (start, end) in joined(&row.read) {
+        bar("read", start, end);
+    }
+    let mut ends: Vec<u64> = row.read.iter().flat_map(|read| [read.start, read.end]).collect();
+    ends.dedup();
+    let read = inside(ends.into_iter().map(x), scale);
+    let judged = inside(row.judged.iter().copied().map(x), scale);
+    let (read_apart, judged_apart) = (apart(&read), apart(&judged));
+    svg.verticals("boundary unjudged", &read_apart, (line.top(), line.bottom()));
+    svg.verticals("boundary", &judged_apart, (line.top() - 2.0, line.bottom() + 2.0));
+    read_apart.len() + judged_apart.len() < read.len() + judged.len()
+}
+
+/// Fragments that follow each other without a gap, as one stretch.
+fn joined(read: &[Read]) -> Vec<(u64, u64)> {
+    let mut stretches: Vec<(u64, u64)> = Vec::new();
+    for one in read {
+        match stretches.last_mut() {
+            Some((_, end)) if *end == one.start => *end = one.end,
+            _ => stretches.push((one.start, one.end)),
+        }
+    }
+    stretches
+}
+
+fn inside(xs: impl Iterator<Item = f64>, scale: &Scale) -> Vec<f64> {
+    xs.filter(|x| (scale.left - 0.01..=scale.right() + 0.01).contains(x)).collect()
+}
+
+/// Places that can be told apart.
+fn apart(xs: &[f64]) -> Vec<f64> {
+    let mut shown: Vec<f64> = Vec::new();
+    for x in xs {
+        if shown.last().is_none_or(|last| (x - last).abs() >= NEAREST) {
+            shown.push(*x);
+        }
+    }
+    shown
+}
+
+/// An arrow at the edge stands for fragments beyond it.
+fn arrows(svg: &mut Svg, row: &Row, scale: &Scale, line: Line) {
+    let mut arrow = |edge: f64, tip: f64| {
+        svg.polygon("beyond", &[(edge, line.y - 5.0), (tip, line.y), (edge, line.y + 5.0)]);
+    };
+    let beyond = |at: u64| scale.x(row.at(at));
+    if row.read.iter().any(|read| beyond(read.start) > scale.right() + 1.0) {
+        arrow(scale.right() + 3.0, scale.right() + 10.0);
+    }
+    if row.read.iter().any(|read| beyond(read.end) < scale.left - 1.0) {
+        arrow(scale.left - 3.0, scale.left - 10.0);
+    }
+}
+
+/// The number of each fragment, where there is room for all of them.
+fn numbers(svg: &mut Svg, row: &Row, scale: &Scale, line: Line) {
+    let judged = (0_u64..).zip(row.judged.windows(2)).map(|(nth, ends)| (nth, ends[0], ends[1]));
+    let read = row.read.iter().map(|read| (read.number, read.start, read.end));
+    let x = |ticks: u64| scale.x(row.at(ticks));
+    let fits = |(number, start, end): &(u64, u64, u64)| {
+        x(*end) - x(*start) >= width(&number.to_string()) + 8.0
+    };
+    let inside = |(_, start, end): &(u64, u64, u64)| {
+        x(*start) >= scale.left - 0.01 && x(*end) <= scale.right() + 0.01
+    };
+    let all: Vec<_> = judged.chain(read).filter(inside).collect();
+    if !all.iter().all(fits) {
+        return;
+    }
+    for (number, start, end) in all {
+        let middle = (x(start) + x(end)) / 2.0;
+        svg.text("fragment", middle, line.y + 3.5, Anchor::Middle, &number.to_string());
+    }
+}
+
+/// Points to the place where the tracks part; answers where the picture ends.
+fn point(
+    svg: &mut Svg,
+    rows: &[Row],
+    mark: &Mark,
+    scale: Option<&Scale>,
+    line: Line,
+    (pitch, bottom): (f64, f64),
+) -> f64 {
+    let row = &rows[mark.row];
+    let below = bottom + 12.0;
+    let stretch = scale.and_then(|scale| stretch(row, mark, scale));
+    let Some((x, ends)) = stretch else {
+        // The header of every track stands before its first fragment.
+        for nth in 0..rows.len() {
+            let class = if nth == mark.row { "refused" } else { "header" };
+            let y = TOP + pitch * nth as f64 + pitch / 2.0 - line.height / 2.0;
+            svg.rect(class, (LEFT - 18.0, LEFT - 8.0), y, line.height);
+        }
+        svg.vertical("pointer", LEFT - 13.0, (line.bottom(), below));
+        svg.text("mark refused-text", LEFT - 17.0, bottom + 26.0, Anchor::Start, &mark.words);
+        return bottom + 38.0;
+    };
+    svg.rect("refused", ends, line.top() - 3.0, line.height + 6.0);
+    // A tick is compared with the other tracks', a fragment is not.
+    let across = matches!(mark.place, Place::Ticks { .. });
+    svg.vertical("pointer", x, (if across { TOP - 6.0 } else { line.bottom() + 3.0 }, below));
+    let (anchor, aside) = match (x - LEFT) / PLOT {
+        part if part < 0.3 => (Anchor::Start, -4.0),
+        part if part > 0.7 => (Anchor::End, 4.0),
+        _ => (Anchor::Middle, 0.0),
+    };
+    svg.text("mark refused-text", x + aside, bottom + 26.0, anchor, &mark.words);
+    bottom + 38.0
+}
+
+/// Where the pointer stands and how far the refused stretch goes; `None` for the header.
+fn stretch(row: &Row, mark: &Mark, scale: &Scale) -> Option<(f64, (f64, f64))> {
+    let x = |ticks: u64| scale.x_inside(row.at(ticks));
+    let wide = |(from, to): (f64, f64)| {
+        if to - from < 3.0 {
+            (from - 1.0, from + 2.0)
+        } else {
+            (from, to)
+        }
+    };
+    match mark.place {
+        Place::Header => None,
+        Place::Fragment { start, end } => {
+            let ends = wide((x(start), x(end.unwrap_or_else(|| guessed_end(row, start)))));
+            Some(((ends.0 + ends.1) / 2.0, ends))
+        }
+        Place::Ticks { found, expected, at } => {
+            Some((x(at), wide((x(found.min(expected)), x(found.max(expected))))))
+        }
+        Place::Tail => {
+            let last = row.judged.iter().copied().chain(row.read.iter().map(|read| read.end)).max();
+            let at = x(last?);
+            Some((at + 6.0, (at + 2.0, at + 10.0)))
+        }
+    }
+}
+
+/// A fragment whose end can't be read is drawn as long as the one before.
+pub fn guessed_end(row: &Row, start: u64) -> u64 {
+    start.saturating_add(row.length_before(start).unwrap_or(row.timescale))
+}
