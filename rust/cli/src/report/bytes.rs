@@ -71,7 +71,7 @@ pub fn hex(track: &Track, verdict: &Verdict) -> String {
     let end = place.saturating_add(usize::try_from(size).unwrap_or(usize::MAX));
     let marked = |at: usize| at >= place && at < end;
     let last = track.bytes.len().min(place.saturating_add(SHOWN));
-    let first = if place >= LINE { place - LINE } else { 0 };
+    let first = place.saturating_sub(LINE);
     let mut starts: Vec<usize> = (place..last).step_by(LINE).collect();
     if first < place {
         starts.insert(0, first);

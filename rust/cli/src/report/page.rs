@@ -22,7 +22,7 @@ const POLICY: &str = "default-src 'none'; style-src 'unsafe-inline'; img-src dat
 const PROVED: &str = "\
 <h2>What is proved</h2>
 <p>The verdict line is the library's: its number, track and byte, and on acceptance its boundaries. The library is
-written in Rattle and proved to accept exactly where every written rule holds, and else to name the first broken one.</p>
+written in Rattle and proved to accept exactly where every written rule holds, else to name the first broken one.</p>
 <p>Not proved: picture, tables and words. The command computed them from the bytes, the proved index and the proved
 verdicts on each track and its front, after the verdict was there. They never change it. What must be believed beside
 the proofs is in docs/TRUST.md of the product.</p>
@@ -118,7 +118,7 @@ fn figure(rows: &[Row], mark: Option<&Mark>, refused: bool) -> String {
         entry("refused", "where the refusal is");
     }
     if picture.thinned {
-        legend += "<span>Boundaries are too near to each other for a line each.</span>";
+        legend += "<span>Some boundaries are too near to each other for a line each.</span>";
     }
     format!(
         "<section>\n<h2>{heading}</h2>\n<figure>\n{}<figcaption>{legend}</figcaption>\n</figure>\n</section>\n",
@@ -174,7 +174,8 @@ fn part(part: &Part) -> String {
 /// The boundaries of an accepted set, in ticks and seconds.
 fn boundaries(set: &Set) -> String {
     let judged = &set.judged;
-    let mut text = "<section>\n<h2>Boundaries in ticks and seconds</h2>\n<ol class=\"boundaries\" start=\"0\">\n".to_owned();
+    let mut text = "<section>\n<h2>Boundaries in ticks and seconds</h2>\n".to_owned();
+    text += "<ol class=\"boundaries\" start=\"0\">\n";
     for ticks in judged.boundaries.iter().take(BOUNDARIES) {
         let _ = writeln!(
             text,

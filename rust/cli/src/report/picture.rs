@@ -158,7 +158,7 @@ fn axis(svg: &mut Svg, scale: &Scale, bottom: f64) {
 }
 
 /// A track's fragments: judged ones as one bar, unjudged ones as others, a line at each boundary.
-/// Answers whether lines were left out, as they could not be told apart.
+/// Answers whether judged boundaries have no line, as it could not be told from the one before.
 pub fn bars(svg: &mut Svg, row: &Row, scale: &Scale, line: Line) -> bool {
     let x = |ticks: u64| scale.x(row.at(ticks));
     let mut bar = |class: &str, start: u64, end: u64| {
@@ -178,10 +178,10 @@ pub fn bars(svg: &mut Svg, row: &Row, scale: &Scale, line: Line) -> bool {
     ends.dedup();
     let read = inside(ends.into_iter().map(x), scale);
     let judged = inside(row.judged.iter().copied().map(x), scale);
-    let (read_apart, judged_apart) = (apart(&read), apart(&judged));
-    svg.verticals("boundary unjudged", &read_apart, (line.top(), line.bottom()));
-    svg.verticals("boundary", &judged_apart, (line.top() - 2.0, line.bottom() + 2.0));
-    read_apart.len() + judged_apart.len() < read.len() + judged.len()
+    let shown = apart(&judged);
+    svg.verticals("boundary unjudged", &apart(&read), (line.top(), line.bottom()));
+    svg.verticals("boundary", &shown, (line.top() - 2.0, line.bottom() + 2.0));
+    shown.len() < judged.len()
 }
 
 /// Fragments that follow each other without a gap, as one stretch.

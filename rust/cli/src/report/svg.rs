@@ -113,6 +113,6 @@ mod tests {
     fn names_keep_both_ends() {
         assert_eq!(shortened("low.mp4", 10), "low.mp4");
         assert_eq!(shortened("programme-1080p.mp4", 13), "prog…080p.mp4");
-        assert_eq!(shortened("ééééééééé.mp4", 10), "é…éé.mp4");
+        assert_eq!(shortened("ééééééééé.mp4", 10), "é…é.mp4");
     }
 }

@@ -7,5 +7,6 @@ mod explain;
 mod folder;
 mod large;
 mod pack;
+mod report;
 mod run;
 mod streams;
