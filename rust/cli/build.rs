@@ -10,9 +10,7 @@ fn main() {
     println!("cargo::rerun-if-changed={LIBRARY}");
     println!("cargo::rerun-if-env-changed=FLANGEMINT_KIT");
     if env::var_os("DEP_FLANGEMINT_LINKED").is_none() {
-        println!(
-            "cargo::error=the command needs libflangemint.a: `make archive` makes it"
-        );
+        println!("cargo::error=the command needs libflangemint.a: `make archive` makes it");
     }
     let manifest = fs::read_to_string(LIBRARY).unwrap_or_default();
     let version = manifest.lines().find_map(|line| line.strip_prefix("version = "));

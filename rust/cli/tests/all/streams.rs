@@ -31,7 +31,8 @@ fn a_closed_pipe() {
 #[test]
 fn a_bundle_that_nobody_reads() {
     let folder = Folder::new("a_bundle_that_nobody_reads");
-    let mut child = command(&folder, &["pack", "-", "-o", "-"]).stdin(Stdio::piped()).spawn().unwrap();
+    let mut child =
+        command(&folder, &["pack", "-", "-o", "-"]).stdin(Stdio::piped()).spawn().unwrap();
     drop(child.stdout.take());
     child.stdin.take().unwrap().write_all(&track_t(2, |_| ())).unwrap();
     Ran::of(child.wait_with_output().unwrap()).assert_not_judged("standard output was closed");
