@@ -73,10 +73,10 @@ fuzz: $(ARCHIVE) ## the exported functions against the reference, SECONDS long (
 samples: ## the stored tracks of real encoders, good and damaged (python3)
 	samples/check ./intake
 
-readme: ## runs what the README shows and compares
+readme: ## runs what the README shows and compares (cargo, a C compiler, python3, ffmpeg)
 	tools/readme
 
-report-test: ## the report in a browser
+report-test: ## the report in a browser (cargo, python3, chromium)
 	tools/report-test
 
 vectors: ## writes the gate's cases anew: the reference's, the samples', the fuzzer's (cargo, python3)

@@ -44,7 +44,7 @@ extern "C" {
  * track's boxes at least 20 are the header's (ftyp, moov, mvhd, trak, tkhd, mdia, mdhd, hdlr, minf, its media
  * header, dinf, dref, stbl, stsd, stts, stsc, stsz, stco, mvex, trex), and each fragment has at least 7 (moof,
  * mfhd, traf, tfhd, tfdt, trun, mdat); there is one boundary more than there are fragments. The tracks of an
- * accepted set share theirs.
+ * accepted set share theirs. (This counts boxes; it is not proved. Were it wrong, the answer would be FLANGEMINT_ROOM.)
  */
 #define FLANGEMINT_INDEX_ROOM (4 * FLANGEMINT_MAX_BOXES)
 #define FLANGEMINT_TRACK_ROOM ((FLANGEMINT_MAX_BOXES - 20) / 7 + 1)

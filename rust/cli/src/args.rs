@@ -32,7 +32,8 @@ const CHECK: &str = "\
 Examples:
   flangemint check video.mp4                    one track by itself
   flangemint check low.mp4 mid.mp4 high.mp4     a switching set: 2 to 16 tracks
-  cat init.mp4 seg*.m4s | flangemint check -    header and segments from standard input
+  cat init.mp4 $(ls -v seg*.m4s) | flangemint check -
+                                                header and segments, in the order of their numbers
   flangemint check --json low.mp4 high.mp4 | jq .refusal.box.path
   flangemint check --bundle set.bundle          what `flangemint pack` wrote
 

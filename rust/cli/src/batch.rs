@@ -230,5 +230,8 @@ fn write(
         }
     }
     bar.finish_and_clear();
+    if next == 0 {
+        output::complain("the list has no set");
+    }
     Ok(worst)
 }

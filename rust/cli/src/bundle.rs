@@ -29,6 +29,10 @@ impl Bundle {
         // One file of the full length, and one byte to hear that it is too long.
         let kept = HEAD + MOST_BYTES + 1;
         let mut bundle = Bundle { bytes: Vec::new(), tracks: Vec::new() };
+        // Room for all at once, where it can be had; each file asks for its own again.
+        let sum: u64 =
+            files.iter().map(|file| HEAD as u64 + file.expected()).fold(0, u64::saturating_add);
+        let _ = bundle.bytes.try_reserve_exact(sum.min(kept as u64) as usize);
         for (nth, file) in files.into_iter().enumerate() {
             let bytes = &mut bundle.bytes;
             if bytes.len() >= kept && each.is_none() {

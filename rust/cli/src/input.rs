@@ -63,9 +63,14 @@ pub fn open(path: &OsStr, show: Show) -> Result<Opened, Failure> {
 }
 
 impl Opened {
+    /// How many bytes it has, as far as one can know before it is read.
+    pub fn expected(&self) -> u64 {
+        self.length.unwrap_or(0)
+    }
+
     /// Appends the file's bytes, so many at most.
     pub fn append_to(self, bytes: &mut Vec<u8>, most: usize) -> Result<(), Failure> {
-        let expected = self.length.unwrap_or(0).min(most as u64) as usize;
+        let expected = self.expected().min(most as u64) as usize;
         let room = bytes.try_reserve(expected);
         room.map_err(|_| Failure::new(format!("{}: no memory for {expected} bytes", self.name)))?;
         let bar = match self.show {

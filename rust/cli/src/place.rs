@@ -41,11 +41,14 @@ pub fn container_around(view: View, place: u64) -> Option<usize> {
     view.boxes.iter().rposition(holds)
 }
 
-/// The fragment of a box: a `moof` or what it holds, or the `mdat` after it.
+/// The fragment of a box: a `moof` or what it holds, or the `mdat` directly after it.
 fn fragment(view: View, nth: usize) -> Option<(u64, u64)> {
     let top = view.top(nth);
-    if ![*b"moof", *b"mdat"].contains(&view.boxes[top].kind) {
-        return None;
+    let before = || view.boxes[..top].iter().rev().find(|one| one.depth == 0);
+    match &view.boxes[top].kind {
+        b"moof" => {}
+        b"mdat" if before().is_some_and(|one| one.kind == *b"moof") => {}
+        _ => return None,
     }
     let moofs = view.boxes[..=top].iter().filter(|one| one.depth == 0 && one.kind == *b"moof");
     let (number, moof) = moofs.enumerate().last()?;

@@ -72,7 +72,8 @@ fn acceptance(set: &Set, all: bool) -> String {
         let _ = writeln!(text, "  {ticks:>width$}  {:>width$}", time(*ticks));
     }
     if let Some(left @ 1..) = boundaries.len().checked_sub(shown) {
-        let _ = writeln!(text, "  {left} more are left out: --boundaries shows them all");
+        let are = if left == 1 { "is" } else { "are" };
+        let _ = writeln!(text, "  {left} more {are} left out: --boundaries shows them all");
     }
     text
 }

@@ -1,6 +1,6 @@
 //! Numbers 15 to 22: a fragment.
 
-use super::{contrast, counted, said, size_and_version, Contrast};
+use super::{contrast, counted, many, said, size_and_version, Contrast};
 use crate::samples::{runs, Run, Source};
 use crate::time::seconds;
 use crate::view::View;
@@ -23,7 +23,7 @@ pub fn body(view: View, at: usize) -> Option<Contrast> {
         _ => {
             let samples = u64::from(body.word(4).unwrap_or(0));
             let each = 4 * set(&[0x100, 0x200, 0x400, 0x800]);
-            let because = format!(" with flags {flags:#x} and {samples} samples");
+            let because = format!(" with flags {flags:#x} and {}", many(samples, "sample"));
             (16 + 4 * set(&[1, 4]) + samples * each, "0 or 1", because)
         }
     };
@@ -48,7 +48,7 @@ pub fn flags(view: View, at: usize) -> Option<Contrast> {
 pub fn sample_count(view: View, traf: usize) -> Option<Contrast> {
     let truns = view.inside(Some(traf)).filter(|nth| view.boxes[*nth].kind == *b"trun");
     let samples: u64 = truns.filter_map(|nth| view.body(nth).word(4)).map(u64::from).sum();
-    contrast(counted(samples, format!("{samples} samples")), said("1 to 65536 samples"))
+    contrast(counted(samples, many(samples, "sample")), said("1 to 65536 samples"))
 }
 
 pub fn decode_time(view: View, at: usize, end: u64, timescale: u64) -> Option<Contrast> {
@@ -99,8 +99,8 @@ pub fn tiling(view: View, at: usize) -> Option<Contrast> {
     if view.boxes[at].kind == *b"mdat" {
         let payload = view.body(at).bytes.len() as i128;
         return contrast(
-            counted(payload, format!("{payload} bytes of data")),
-            counted(before, format!("{before} bytes, the sum of the sample sizes")),
+            counted(payload, format!("{} of data", many(payload, "byte"))),
+            counted(before, format!("{}, the sum of the sample sizes", many(before, "byte"))),
         );
     }
     let found = match runs.iter().find(|run| run.nth == at)?.offset {

@@ -1,6 +1,6 @@
 //! Numbers 1 to 6, and 24: the bytes as boxes, and as records.
 
-use super::{contrast, counted, said, Contrast};
+use super::{contrast, counted, many, said, Contrast};
 use crate::bundle;
 use crate::judge::{BoxAt, MOST_BYTES};
 use crate::layout::letters;
@@ -20,7 +20,8 @@ pub fn short_header(view: View, place: u64) -> Option<Contrast> {
     let left = view.end(around).checked_sub(place)?;
     let needed =
         if left < 8 { "8 bytes for a box header" } else { "16 bytes, as the size field is 1" };
-    contrast(counted(left, format!("{left} bytes left in {}", name(view, around))), said(needed))
+    let found = format!("{} left in {}", many(left, "byte"), name(view, around));
+    contrast(counted(left, found), said(needed))
 }
 
 pub fn impossible_size(view: View, at: usize) -> Option<Contrast> {
@@ -75,7 +76,7 @@ pub fn in_bundle(bytes: &[u8], place: u64, good: u64) -> Option<Contrast> {
     let head = bundle::HEAD;
     if good as usize >= bundle::MOST_TRACKS {
         return contrast(
-            said(format!("{} bytes after {good} records", rest.len())),
+            said(format!("{} after {good} records", many(rest.len() as u64, "byte"))),
             said("16 records at most"),
         );
     }
@@ -84,7 +85,7 @@ pub fn in_bundle(bytes: &[u8], place: u64, good: u64) -> Option<Contrast> {
     }
     if rest.len() < head {
         return contrast(
-            said(format!("{} bytes left", rest.len())),
+            said(format!("{} left", many(rest.len() as u64, "byte"))),
             said("6 bytes of mark and length"),
         );
     }

@@ -33,8 +33,17 @@ fn counted(number: impl Into<i128>, words: impl Into<String>) -> Fact {
     Fact { words: words.into(), number: Some(number.into()) }
 }
 
-fn contrast(found: Fact, expected: Fact) -> Option<Contrast> {
+/// Both sides. A number that is the same on both is not what differs, and is left out.
+fn contrast(mut found: Fact, mut expected: Fact) -> Option<Contrast> {
+    if found.number == expected.number {
+        (found.number, expected.number) = (None, None);
+    }
     Some(Contrast { found, expected })
+}
+
+/// So many of a thing: `1 byte`, `2 bytes`.
+pub fn many(number: u64, thing: &str) -> String {
+    format!("{number} {thing}{}", if number == 1 { "" } else { "s" })
 }
 
 /// The contrast of a refusal of the track itself, numbers 1 to 22. `start` is where the fragment
@@ -89,5 +98,5 @@ fn size_and_version(view: View, at: usize) -> Fact {
     let size = view.boxes[at].size;
     let version = view.body(at).version().filter(|_| view.boxes[at].kind != *b"ftyp");
     let version = version.map_or(String::new(), |version| format!(", version {version}"));
-    counted(size, format!("{size} bytes{version}"))
+    counted(size, format!("{}{version}", many(size, "byte")))
 }

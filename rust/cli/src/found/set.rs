@@ -1,6 +1,6 @@
 //! Numbers 25 to 28: a track beside track 0.
 
-use super::{contrast, counted, said, Contrast};
+use super::{contrast, counted, many, said, Contrast};
 use crate::facts::Track;
 use crate::layout::letters;
 use crate::time::seconds;
@@ -21,7 +21,7 @@ pub fn beside(number: u64, track: &Track, zero: &Track) -> Option<Contrast> {
             contrast(said(format!("handler {one}")), said(format!("handler {other} as in track 0")))
         }
         26 => pair(&|number| format!("timescale {number}"), one.timescale, other.timescale),
-        27 => pair(&|number| format!("{number} fragments"), one.count, other.count),
+        27 => pair(&|number| many(number, "fragment"), one.count, other.count),
         28 => {
             let mut both = track.alone.boundaries.iter().zip(&zero.alone.boundaries).enumerate();
             let (nth, (one, other)) = both.find(|(_, (one, other))| one != other)?;

@@ -185,9 +185,10 @@ fn boundaries(set: &Set) -> String {
     }
     text += "</ol>\n";
     if let Some(left @ 1..) = judged.boundaries.len().checked_sub(BOUNDARIES) {
+        let are = if left == 1 { "is" } else { "are" };
         let _ = writeln!(
             text,
-            "<p class=\"note\">{left} more are left out: <code>flangemint check --boundaries</code> shows them all.</p>"
+            "<p class=\"note\">{left} more {are} left out: <code>flangemint check --boundaries</code> shows them all.</p>"
         );
     }
     text + "</section>\n"

@@ -52,8 +52,7 @@ impl<'a> Row<'a> {
         let timescale = found::timescale(track.view()).unwrap_or(0);
         let judged = front(track);
         let says = match (verdict.number, verdict.count) {
-            (0, 1) => "1 fragment".to_owned(),
-            (0, count) => format!("{count} fragments"),
+            (0, count) => found::many(count, "fragment"),
             (number, _) => format!("refused {number}"),
         };
         let read = if timescale == 0 { vec![] } else { after(track, judged.len()) };
