@@ -42,7 +42,8 @@ fn contrast(mut found: Fact, mut expected: Fact) -> Option<Contrast> {
 }
 
 /// So many of a thing: `1 byte`, `2 bytes`.
-pub fn many(number: u64, thing: &str) -> String {
+pub fn many(number: impl Into<i128>, thing: &str) -> String {
+    let number = number.into();
     format!("{number} {thing}{}", if number == 1 { "" } else { "s" })
 }
 
