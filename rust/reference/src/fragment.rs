@@ -1,10 +1,9 @@
 //! One fragment, a `moof` and its `mdat`: rules 14 to 22.
 
-use crate::counts::tally;
 use crate::fields::Fields;
 use crate::framing::Framed;
 use crate::header::Header;
-use crate::kinds::*;
+use crate::moof::Moof;
 use crate::run::{Run, SampleDefaults, Tfhd};
 use crate::verdict::Refusal;
 use crate::MAX_SAMPLES;
@@ -21,48 +20,35 @@ pub struct Span {
 /// Rules 14 to 22, in their order; `clock` is the end of the fragment before.
 pub fn check(
     header: &Header,
-    moof: &Framed,
+    moof: &Moof,
     mdat: &Framed,
     clock: Option<u64>,
 ) -> Result<Span, Refusal> {
-    let [mfhd, traf] = tally(14, moof, |kind| match kind {
-        MFHD => Some(0),
-        TRAF => Some(1),
-        _ => None,
-    });
-    let (mfhd, traf) = (mfhd.one()?, traf.one()?);
-    let [tfhd, tfdt, first_run] = tally(14, &traf, |kind| match kind {
-        TFHD => Some(0),
-        TFDT => Some(1),
-        TRUN => Some(2),
-        _ => None,
-    });
-    let (tfhd, tfdt) = (tfhd.one()?, tfdt.one()?);
-    let first_run = first_run.at_least_one()?;
+    let mfhd = moof.mfhd.one(14, moof.at)?;
+    let traf = moof.traf.one(14, moof.at)?;
+    let tfhd = moof.tfhd.one(14, traf.at)?;
+    let tfdt = moof.tfdt.one(14, traf.at)?;
+    let runs = &moof.runs;
+    let Some(first_run) = runs.first_at else {
+        return Err(traf.refused(14));
+    };
 
     mfhd.parsed(15, mfhd_fields)?;
     let tfhd_fields = tfhd.parsed(15, |body| Tfhd::parse(body, &header.defaults))?;
     let start = tfdt.parsed(15, start)?;
-    let mut samples = 0;
-    let mut flags_twice = None;
-    for framed in runs(&traf) {
-        let run = framed.parsed(15, Run::parse)?;
-        samples += u64::from(run.count);
-        if run.has_flags_twice() {
-            flags_twice.get_or_insert(framed.at);
-        }
+    if let Some(place) = runs.bad_body {
+        return Err(Refusal::new(15, place));
     }
-
     if !tfhd_fields.has_good_flags() {
         return Err(tfhd.refused(16));
     }
-    if let Some(place) = flags_twice {
+    if let Some(place) = runs.flags_twice {
         return Err(Refusal::new(16, place));
     }
     if tfhd_fields.track_id != header.track_id {
         return Err(tfhd.refused(17));
     }
-    if !(1..=MAX_SAMPLES).contains(&samples) {
+    if !(1..=MAX_SAMPLES).contains(&runs.samples) {
         return Err(traf.refused(18));
     }
     if clock.is_some_and(|clock| clock != start) {
@@ -70,28 +56,28 @@ pub fn check(
     }
 
     // Only now are samples summed: rule 18 keeps every sum below far from 2^64.
-    let totals = Totals::of(&traf, &tfhd_fields.defaults, moof.size() + mdat.header);
+    let payload = (moof.size + mdat.header()) as u64;
+    let mut totals = Totals::new(payload);
+    runs.each(|at, run| totals.add(at, run, &tfhd_fields.defaults));
     let end = start.checked_add(totals.duration).filter(|end| *end <= LAST_TICK);
     let (Some(end), 1..) = (end, totals.duration) else {
-        return Err(first_run.refused(20));
+        return Err(Refusal::new(20, first_run));
     };
-    if totals.first_flags & NON_SYNC != 0 {
-        return Err(first_run.refused(21));
+    // Rule 18: there is a first sample.
+    if totals.first_flags.is_some_and(|flags| flags & NON_SYNC != 0) {
+        return Err(Refusal::new(21, first_run));
     }
     if let Some(place) = totals.wrong_run {
         return Err(Refusal::new(22, place));
     }
-    if totals.size != mdat.body.len() as u64 {
+    if totals.next - payload != mdat.body.len() as u64 {
         return Err(mdat.refused(22));
     }
     Ok(Span { start, end })
 }
 
-fn runs<'a>(traf: &Framed<'a>) -> impl Iterator<Item = Framed<'a>> {
-    traf.children().filter(|child| child.kind == TRUN)
-}
-
 /// Rule 15 for `mfhd`: 16 bytes of version 0.
+#[inline(always)]
 fn mfhd_fields(body: &[u8]) -> Option<()> {
     let mut fields = Fields::of(body);
     let (version, _) = fields.version_and_flags()?;
@@ -100,6 +86,7 @@ fn mfhd_fields(body: &[u8]) -> Option<()> {
 }
 
 /// Rule 15 for `tfdt`: the start of the fragment.
+#[inline(always)]
 fn start(body: &[u8]) -> Option<u64> {
     let mut fields = Fields::of(body);
     let start = match fields.version_and_flags()? {
@@ -110,39 +97,39 @@ fn start(body: &[u8]) -> Option<u64> {
     fields.rest().is_empty().then_some(start)
 }
 
-/// What the samples of a fragment come to.
+/// What the runs of a fragment come to, as far as they were added.
 struct Totals {
     duration: u64,
-    size: u64,
+    /// Where the next run's bytes begin, counted from the `moof`.
+    next: u64,
+    /// No run was added yet.
+    is_first: bool,
     /// Of the fragment's first sample.
-    first_flags: u32,
+    first_flags: Option<u32>,
     /// The first run whose offset breaks rule 22.
     wrong_run: Option<usize>,
 }
 
 impl Totals {
     /// `payload` is where the samples begin, counted from the `moof`.
-    fn of(traf: &Framed, defaults: &SampleDefaults, payload: usize) -> Totals {
-        let mut totals = Totals { duration: 0, size: 0, first_flags: 0, wrong_run: None };
-        let mut first_flags = None;
-        for (position, framed) in runs(traf).enumerate() {
-            let Some(run) = Run::parse(framed.body) else {
-                continue; // rule 15 has been here
-            };
-            let next = payload as u64 + totals.size;
-            let is_right = match run.offset {
-                Some(offset) => u64::try_from(offset) == Ok(next),
-                None => position > 0,
-            };
-            if !is_right {
-                totals.wrong_run.get_or_insert(framed.at);
-            }
-            let [duration, size] = run.duration_and_size(defaults);
-            totals.duration += duration;
-            totals.size += size;
-            first_flags = first_flags.or_else(|| run.first_flags(defaults));
+    fn new(payload: u64) -> Self {
+        Totals { duration: 0, next: payload, is_first: true, first_flags: None, wrong_run: None }
+    }
+
+    /// Takes the next run, which stands at this place.
+    #[inline(always)]
+    fn add(&mut self, at: usize, run: &Run, defaults: &SampleDefaults) {
+        let is_right = match run.offset {
+            Some(offset) => u64::try_from(offset) == Ok(self.next),
+            None => !self.is_first,
+        };
+        if !is_right {
+            self.wrong_run.get_or_insert(at);
         }
-        totals.first_flags = first_flags.unwrap_or(0); // rule 18: there is a sample
-        totals
+        self.is_first = false;
+        let [duration, size] = run.duration_and_size(defaults);
+        self.duration += duration;
+        self.next += size;
+        self.first_flags = self.first_flags.or_else(|| run.first_flags(defaults));
     }
 }

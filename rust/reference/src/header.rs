@@ -1,10 +1,9 @@
 //! The track header: rules 7 to 13.
 
-use crate::counts::tally;
 use crate::fields::{words, Fields};
 use crate::framing::{Framed, SHORT_HEADER};
 use crate::kinds::*;
-use crate::order::TopLevel;
+use crate::moov::{HeaderBoxes, Moov};
 use crate::run::SampleDefaults;
 use crate::verdict::Refusal;
 
@@ -18,26 +17,10 @@ pub struct Header {
     pub defaults: SampleDefaults,
 }
 
-/// The boxes that rule 7 asks for and a later rule reads.
-struct HeaderBoxes<'a> {
-    mvhd: Framed<'a>,
-    tkhd: Framed<'a>,
-    mdhd: Framed<'a>,
-    hdlr: Framed<'a>,
-    media_header: Kind,
-    stsd: Framed<'a>,
-    stts: Framed<'a>,
-    stsc: Framed<'a>,
-    stsz: Framed<'a>,
-    stco: Framed<'a>,
-    trex: Framed<'a>,
-}
-
 /// Rules 7 to 13, in their order.
-pub fn check(top: &TopLevel) -> Result<Header, Refusal> {
-    let TopLevel { ftyp, moov, .. } = top;
-    let boxes = count(moov)?;
-    let HeaderBoxes { mvhd, tkhd, mdhd, hdlr, stsd, stts, stsc, stsz, stco, trex, .. } = &boxes;
+pub fn check(ftyp: &Framed, moov: &Moov) -> Result<Header, Refusal> {
+    let boxes = moov.count()?;
+    let HeaderBoxes { mvhd, tkhd, mdhd, hdlr, stsd, stts, stsc, stsz, stco, trex, .. } = boxes;
 
     // Rule 8: every body is read before any of its fields is judged.
     let has_brand = ftyp.parsed(8, has_brand)?;
@@ -52,86 +35,28 @@ pub fn check(top: &TopLevel) -> Result<Header, Refusal> {
     let stsz_samples = stsz.parsed(8, sample_count)?;
     let (trex_track_id, defaults) = trex.parsed(8, trex_fields)?;
 
-    let rules = [
-        (9, has_brand, ftyp),
-        (10, timescale != 0, mdhd),
-        (11, track_id != 0, tkhd),
-        (11, trex_track_id == track_id, trex),
-        (12, pair(handler, boxes.media_header), hdlr),
-        (13, stsd_entries == 1, stsd),
-        (13, stts_entries == 0, stts),
-        (13, stsc_entries == 0, stsc),
-        (13, stsz_samples == 0, stsz),
-        (13, stco_entries == 0, stco),
-    ];
-    if let Some((rule, _, framed)) = rules.iter().find(|(_, holds, _)| !holds) {
-        return Err(framed.refused(*rule));
-    }
+    ensure(has_brand, 9, ftyp)?;
+    ensure(timescale != 0, 10, mdhd)?;
+    ensure(track_id != 0, 11, tkhd)?;
+    ensure(trex_track_id == track_id, 11, trex)?;
+    ensure(pair(handler, boxes.media_header), 12, hdlr)?;
+    ensure(stsd_entries == 1, 13, stsd)?;
+    ensure(stts_entries == 0, 13, stts)?;
+    ensure(stsc_entries == 0, 13, stsc)?;
+    ensure(stsz_samples == 0, 13, stsz)?;
+    ensure(stco_entries == 0, 13, stco)?;
 
     let (mdhd_at, hdlr_at) = (mdhd.at, hdlr.at);
     Ok(Header { track_id, timescale, handler, mdhd_at, hdlr_at, defaults })
 }
 
-/// Rule 7: container by container in the order of the paper, type by type in each.
-fn count<'a>(moov: &Framed<'a>) -> Result<HeaderBoxes<'a>, Refusal> {
-    let [mvhd, trak, mvex] = tally(7, moov, |kind| match kind {
-        MVHD => Some(0),
-        TRAK => Some(1),
-        MVEX => Some(2),
-        _ => None,
-    });
-    let (mvhd, trak, mvex) = (mvhd.one()?, trak.one()?, mvex.one()?);
-
-    let [tkhd, edts, mdia] = tally(7, &trak, |kind| match kind {
-        TKHD => Some(0),
-        EDTS => Some(1),
-        MDIA => Some(2),
-        _ => None,
-    });
-    let (tkhd, edts, mdia) = (tkhd.one()?, edts.at_most_one()?, mdia.one()?);
-
-    if let Some(edts) = edts {
-        let [elst] = tally(7, &edts, |kind| (kind == ELST).then_some(0));
-        elst.one()?;
+/// The rule is broken at this box, unless it holds.
+fn ensure(holds: bool, rule: u64, framed: &Framed) -> Result<(), Refusal> {
+    if holds {
+        Ok(())
+    } else {
+        Err(framed.refused(rule))
     }
-
-    let [mdhd, hdlr, elng, minf] = tally(7, &mdia, |kind| match kind {
-        MDHD => Some(0),
-        HDLR => Some(1),
-        ELNG => Some(2),
-        MINF => Some(3),
-        _ => None,
-    });
-    let (mdhd, hdlr) = (mdhd.one()?, hdlr.one()?);
-    elng.at_most_one()?;
-    let minf = minf.one()?;
-
-    let [media_header, dinf, stbl] = tally(7, &minf, |kind| match kind {
-        VMHD | SMHD | STHD => Some(0),
-        DINF => Some(1),
-        STBL => Some(2),
-        _ => None,
-    });
-    let (media_header, dinf, stbl) = (media_header.one()?.kind, dinf.one()?, stbl.one()?);
-
-    let [dref] = tally(7, &dinf, |kind| (kind == DREF).then_some(0));
-    dref.one()?;
-
-    let [stsd, stts, stsc, stsz, stco] = tally(7, &stbl, |kind| match kind {
-        STSD => Some(0),
-        STTS => Some(1),
-        STSC => Some(2),
-        STSZ => Some(3),
-        STCO => Some(4),
-        _ => None,
-    });
-    let (stsd, stts, stsc) = (stsd.one()?, stts.one()?, stsc.one()?);
-    let (stsz, stco) = (stsz.one()?, stco.one()?);
-
-    let [trex] = tally(7, &mvex, |kind| (kind == TREX).then_some(0));
-    let trex = trex.one()?;
-
-    Ok(HeaderBoxes { mvhd, tkhd, mdhd, hdlr, media_header, stsd, stts, stsc, stsz, stco, trex })
 }
 
 /// Rule 8 for `ftyp`; tells whether rule 9 holds. The major brand and the

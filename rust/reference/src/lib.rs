@@ -13,9 +13,13 @@ mod framing;
 mod header;
 mod index;
 mod kinds;
+mod moof;
+mod moov;
 mod order;
 mod run;
 mod set;
+mod sums;
+mod timeline;
 mod track;
 mod verdict;
 

@@ -5,8 +5,8 @@ use crate::kinds::*;
 use crate::verdict::Refusal;
 
 /// What the top level waits for.
-#[derive(Clone, Copy, PartialEq)]
-enum Wait {
+#[derive(Clone, Copy)]
+pub enum Order {
     Ftyp,
     Moov,
     FirstMoof,
@@ -16,60 +16,32 @@ enum Wait {
     Nothing(usize),
 }
 
-/// The top level read so far.
-pub struct Order<'a> {
-    wait: Wait,
-    ftyp: Option<Framed<'a>>,
-    moov: Option<Framed<'a>>,
-    first_moof: usize,
-}
-
-/// A top level in good order.
-pub struct TopLevel<'a> {
-    pub ftyp: Framed<'a>,
-    pub moov: Framed<'a>,
-    /// Where the first fragment starts.
-    pub first_moof: usize,
-}
-
-impl<'a> Order<'a> {
-    pub fn new() -> Self {
-        Order { wait: Wait::Ftyp, ftyp: None, moov: None, first_moof: 0 }
-    }
-
-    /// Takes the next box of the top level.
-    pub fn step(&mut self, framed: &Framed<'a>) {
-        self.wait = match (self.wait, framed.kind) {
-            (Wait::Nothing(place), _) => Wait::Nothing(place),
-            (Wait::Ftyp, FTYP) => {
-                self.ftyp = Some(*framed);
-                Wait::Moov
-            }
-            (Wait::Moov, MOOV) => {
-                self.moov = Some(*framed);
-                Wait::FirstMoof
-            }
-            (Wait::FirstMoof, MOOF) => {
-                self.first_moof = framed.at;
-                Wait::Mdat
-            }
-            (Wait::NextMoof, MOOF) => Wait::Mdat,
-            (Wait::Mdat, MDAT) => Wait::NextMoof,
+impl Order {
+    /// Takes the next box of the top level; tells whether it is the one that was waited for.
+    #[inline(always)]
+    pub fn step(&mut self, framed: &Framed) -> bool {
+        let next = match (*self, framed.kind) {
+            (Order::Ftyp, FTYP) => Order::Moov,
+            (Order::Moov, MOOV) => Order::FirstMoof,
+            (Order::FirstMoof | Order::NextMoof, MOOF) => Order::Mdat,
+            (Order::Mdat, MDAT) => Order::NextMoof,
+            (Order::Nothing(_), _) => return false,
             // Nothing stands before `ftyp`, nor between a `moof` and its `mdat`.
-            (Wait::Ftyp | Wait::Mdat, _) | (_, FTYP | MOOV | MOOF | MDAT) => {
-                Wait::Nothing(framed.at)
+            (Order::Ftyp | Order::Mdat, _) | (_, FTYP | MOOV | MOOF | MDAT) => {
+                *self = Order::Nothing(framed.at);
+                return false;
             }
-            (wait, _) => wait,
+            _ => return false,
         };
+        *self = next;
+        true
     }
 
     /// The boxes have run out; `end` is the slice length.
-    pub fn finish(self, end: usize) -> Result<TopLevel<'a>, Refusal> {
-        match (self.wait, self.ftyp, self.moov) {
-            (Wait::NextMoof, Some(ftyp), Some(moov)) => {
-                Ok(TopLevel { ftyp, moov, first_moof: self.first_moof })
-            }
-            (Wait::Nothing(place), ..) => Err(Refusal::new(6, place)),
+    pub fn finish(self, end: usize) -> Result<(), Refusal> {
+        match self {
+            Order::NextMoof => Ok(()),
+            Order::Nothing(place) => Err(Refusal::new(6, place)),
             _ => Err(Refusal::new(6, end)),
         }
     }

@@ -1,6 +1,7 @@
 //! `tfhd` and `trun`: where a sample's duration, size and flags come from.
 
 use crate::fields::{words, Fields};
+use crate::sums;
 
 /// The values of a sample whose run carries none of its own.
 #[derive(Clone, Copy)]
@@ -19,6 +20,7 @@ pub struct Tfhd {
 
 impl Tfhd {
     /// Rule 15 for `tfhd`: the flags decide the size, to the byte.
+    #[inline(always)]
     pub fn parse(body: &[u8], trex: &SampleDefaults) -> Option<Tfhd> {
         let mut fields = Fields::of(body);
         let (version, flags) = fields.version_and_flags()?;
@@ -60,11 +62,11 @@ pub struct Run<'a> {
 const DURATION: u32 = 0x100;
 const SIZE: u32 = 0x200;
 const FLAGS: u32 = 0x400;
-/// All that a row can hold; the last is the composition offset.
-const FIELDS: u32 = DURATION | SIZE | FLAGS | 0x800;
+const COMPOSITION_OFFSET: u32 = 0x800;
 
 impl<'a> Run<'a> {
     /// Rule 15 for `trun`: flags and count decide the size, to the byte.
+    #[inline(always)]
     pub fn parse(body: &'a [u8]) -> Option<Run<'a>> {
         let mut fields = Fields::of(body);
         let (version, flags) = fields.version_and_flags()?;
@@ -84,25 +86,23 @@ impl<'a> Run<'a> {
 
     /// Rule 16: first-sample flags beside flags for every sample.
     pub fn has_flags_twice(&self) -> bool {
-        self.first_sample_flags.is_some() && self.flags & FLAGS != 0
+        self.first_sample_flags.is_some() && self.has(FLAGS)
     }
 
-    /// Duration and size of all samples. What the run doesn't carry is a product,
-    /// what it carries is summed in one pass.
+    /// Duration and size of all samples. What the run carries is summed, what it doesn't carry
+    /// is a product.
+    #[inline(always)]
     pub fn duration_and_size(&self, defaults: &SampleDefaults) -> [u64; 2] {
+        let (has_duration, has_size) = (self.has(DURATION), self.has(SIZE));
+        let [first, second] = if has_duration || has_size { self.first_two_sums() } else { [0; 2] };
         let product = |value: u32| u64::from(self.count) * u64::from(value);
-        match (self.column(DURATION), self.column(SIZE)) {
-            (Some(duration), Some(size)) => self.sums([duration, size]),
-            (Some(duration), None) => {
-                let [duration] = self.sums([duration]);
-                [duration, product(defaults.size)]
-            }
-            (None, Some(size)) => {
-                let [size] = self.sums([size]);
-                [product(defaults.duration), size]
-            }
-            (None, None) => [product(defaults.duration), product(defaults.size)],
-        }
+        let duration = if has_duration { first } else { product(defaults.duration) };
+        let size = match (has_duration, has_size) {
+            (true, true) => second,
+            (false, true) => first,
+            (_, false) => product(defaults.size),
+        };
+        [duration, size]
     }
 
     /// The flags of the run's first sample, if it has one.
@@ -110,29 +110,37 @@ impl<'a> Run<'a> {
         if self.count == 0 {
             return None;
         }
-        let own = || self.column(FLAGS).and_then(|column| words(self.rows).nth(column));
-        Some(self.first_sample_flags.or_else(own).unwrap_or(defaults.flags))
+        if self.first_sample_flags.is_some() {
+            return self.first_sample_flags;
+        }
+        if self.has(FLAGS) {
+            return words(self.rows).nth(self.count_of([DURATION, SIZE]));
+        }
+        Some(defaults.flags)
     }
 
-    fn sums<const N: usize>(&self, columns: [usize; N]) -> [u64; N] {
-        let mut sums = [0; N];
-        for row in self.rows.chunks_exact(4 * self.columns()) {
-            let (row, _) = row.as_chunks();
-            for (sum, column) in sums.iter_mut().zip(columns) {
-                *sum += u64::from(u32::from_be_bytes(row[column]));
-            }
+    /// Durations and sizes are the first two columns, or the first, of those there are.
+    fn first_two_sums(&self) -> [u64; 2] {
+        match self.columns() {
+            1 => [sums::of_words(self.rows), 0],
+            2 => sums::of_pairs(self.rows.as_chunks::<8>().0),
+            3 => sums::of_pairs(self.rows.as_chunks::<12>().0),
+            _ => sums::of_pairs(self.rows.as_chunks::<16>().0),
         }
-        sums
     }
 
     /// How many fields a row has.
     fn columns(&self) -> usize {
-        (self.flags & FIELDS).count_ones() as usize
+        self.count_of([DURATION, SIZE, FLAGS, COMPOSITION_OFFSET])
     }
 
-    /// Where in a row a field stands, if the run carries it: after those of lower flags.
-    fn column(&self, field: u32) -> Option<usize> {
-        let before = self.flags & FIELDS & (field - 1);
-        (self.flags & field != 0).then_some(before.count_ones() as usize)
+    /// How many of these fields the run carries.
+    fn count_of<const N: usize>(&self, fields: [u32; N]) -> usize {
+        fields.iter().filter(|field| self.has(**field)).count()
+    }
+
+    /// Does the run carry this field?
+    fn has(&self, field: u32) -> bool {
+        self.flags & field != 0
     }
 }

@@ -1,7 +1,8 @@
 //! A switching set: the bundle's records, each one's track, and rules 24 to 28.
 
 use crate::header::Header;
-use crate::track::{check, Checked, Timeline};
+use crate::timeline::Timeline;
+use crate::track::{check, Checked};
 use crate::verdict::{Refusal, Verdict};
 use crate::{MAX_BYTES, MAX_TRACKS};
 
@@ -27,7 +28,7 @@ fn check_set(data: &[u8], table: &mut [u64]) -> Result<Verdict, Verdict> {
     // Rules 25 to 28 wait until every track has passed 1 to 22.
     let mut difference = None;
     for (number, data) in tracks {
-        let mut expected = timeline.ticks().iter();
+        let mut expected = timeline.ticks();
         let mut astray = None;
         let track = check(data, |tick, moof| {
             if expected.next().is_some_and(|expected| *expected != tick) {

@@ -1,11 +1,14 @@
 //! One track, header and fragments: rules 1 to 22, and the room for its boundaries.
 
-use crate::framing::{frame, Boxes};
+use crate::framing::{Allowance, Boxes, Framed};
 use crate::header::Header;
 use crate::kinds::*;
+use crate::moof::Moof;
+use crate::moov::Moov;
 use crate::order::Order;
+use crate::timeline::Timeline;
 use crate::verdict::{Refusal, Verdict};
-use crate::{fragment, header, MAX_BOXES, MAX_BYTES};
+use crate::{fragment, header, MAX_BYTES};
 
 /// Checks one track; on acceptance the table gets its F + 1 boundaries.
 pub fn track(data: &[u8], table: &mut [u64]) -> Verdict {
@@ -25,68 +28,95 @@ pub struct Checked {
 
 /// Rules 1 to 22. `boundary` sees each of the F + 1 boundaries in order, with
 /// the `moof` that rule 28 would name for it; it may see some before a refusal.
-pub fn check(data: &[u8], mut boundary: impl FnMut(u64, usize)) -> Result<Checked, Refusal> {
+pub fn check(data: &[u8], boundary: impl FnMut(u64, usize)) -> Result<Checked, Refusal> {
     if data.len() > MAX_BYTES {
         return Err(Refusal::new(1, 0));
     }
-    let mut order = Order::new();
-    frame(data, |framed, depth| {
-        if depth == 0 {
-            order.step(framed);
-        }
-    })?;
-    let top = order.finish(data.len())?;
-    let header = header::check(&top)?;
-
-    let mut fragments = 0;
-    let mut clock = None;
-    let mut last_moof = top.first_moof;
-    let pairs = data.get(top.first_moof..).unwrap_or_default();
-    let mut boxes = Boxes::new(pairs, top.first_moof).map_while(Result::ok);
-    while let Some(moof) = boxes.find(|framed| framed.kind == MOOF) {
-        // Rule 6: the very next box is the `mdat`.
-        let Some(mdat) = boxes.next() else { break };
-        let span = fragment::check(&header, &moof, &mdat, clock)?;
-        boundary(span.start, moof.at);
-        clock = Some(span.end);
-        last_moof = moof.at;
-        fragments += 1;
-    }
-    boundary(clock.unwrap_or(0), last_moof);
-    Ok(Checked { header, fragments })
-}
-
-/// No more fragments than this fit into rule 5's boxes: rules 7 and 14 ask for
-/// 20 boxes of `ftyp` and header, and for 7 in each fragment.
-const MAX_FRAGMENTS: usize = (MAX_BOXES - 20) / 7;
-
-/// The boundaries of one track, kept until it is known that they may be written.
-pub struct Timeline {
-    ticks: [u64; MAX_FRAGMENTS + 1],
-    len: usize,
-}
-
-impl Timeline {
-    pub fn new() -> Self {
-        Timeline { ticks: [0; MAX_FRAGMENTS + 1], len: 0 }
-    }
-
-    pub fn push(&mut self, tick: u64) {
-        debug_assert!(self.len < self.ticks.len());
-        if let Some(next) = self.ticks.get_mut(self.len) {
-            *next = tick;
-            self.len += 1;
+    let mut allowance = Allowance::new();
+    let mut order = Order::Ftyp;
+    let mut contents = Contents::new(boundary);
+    let mut boxes = Boxes::new(data, 0);
+    while let Some(framed) = boxes.next(&mut allowance)? {
+        let is_in_order = order.step(&framed);
+        match framed.kind {
+            MOOV => {
+                let mut moov = Moov::default();
+                allowance = moov.read(framed, allowance)?;
+                if is_in_order {
+                    contents.add_moov(&moov);
+                }
+            }
+            MOOF => allowance = contents.moof.read(framed, allowance)?,
+            MDAT if is_in_order => contents.add_mdat(framed),
+            FTYP if is_in_order => contents.ftyp = Some(framed),
+            _ => (),
         }
     }
+    order.finish(data.len())?;
+    contents.finish()
+}
 
-    pub fn ticks(&self) -> &[u64] {
-        self.ticks.get(..self.len).unwrap_or_default()
+/// What header and fragments come to. They are checked as they come, and a
+/// broken rule waits: framing and order are tried first, over the whole slice.
+struct Contents<'a, B> {
+    boundary: B,
+    ftyp: Option<Framed<'a>>,
+    header: Option<Header>,
+    /// The last one that was met.
+    moof: Moof<'a>,
+    fragments: usize,
+    /// The end of the last fragment.
+    clock: Option<u64>,
+    /// The first of rules 7 to 22 that is broken.
+    broken: Option<Refusal>,
+}
+
+impl<'a, B: FnMut(u64, usize)> Contents<'a, B> {
+    fn new(boundary: B) -> Self {
+        Contents {
+            boundary,
+            ftyp: None,
+            header: None,
+            moof: Moof::default(),
+            fragments: 0,
+            clock: None,
+            broken: None,
+        }
     }
 
-    /// Writes the boundaries to the start of the lent table, or rule 23.
-    pub fn write(&self, table: &mut [u64]) -> Result<(), Refusal> {
-        let room = table.get_mut(..self.len).ok_or(Refusal::no_room())?;
-        room.copy_from_slice(self.ticks());
-        Ok(())
+    /// Rules 7 to 13. By rule 6 an `ftyp` came before.
+    fn add_moov(&mut self, moov: &Moov) {
+        let Some(ftyp) = &self.ftyp else { return };
+        match header::check(ftyp, moov) {
+            Ok(header) => self.header = Some(header),
+            Err(refusal) => self.broken = Some(refusal),
+        }
+    }
+
+    /// Rules 14 to 22. By rule 6 the `mdat` belongs to the last `moof`.
+    #[inline(always)]
+    fn add_mdat(&mut self, mdat: Framed) {
+        let (Some(header), None) = (&self.header, self.broken) else { return };
+        match fragment::check(header, &self.moof, &mdat, self.clock) {
+            Ok(span) => {
+                (self.boundary)(span.start, self.moof.at);
+                self.clock = Some(span.end);
+                self.fragments += 1;
+            }
+            Err(refusal) => self.broken = Some(refusal),
+        }
+    }
+
+    /// Framing and order are good.
+    fn finish(mut self) -> Result<Checked, Refusal> {
+        if let Some(refusal) = self.broken {
+            return Err(refusal);
+        }
+        // Rule 6: there was a `moov`, and a fragment.
+        let (Some(header), Some(end)) = (self.header, self.clock) else {
+            return Err(Refusal::new(6, 0));
+        };
+        (self.boundary)(end, self.moof.at);
+        Ok(Checked { header, fragments: self.fragments })
     }
 }

@@ -3,4 +3,5 @@
 mod drawn;
 mod examples;
 mod judge;
+mod long;
 mod total;
