@@ -12,7 +12,7 @@ ARCHIVE := $(if $(FLANGEMINT_LIB_DIR),,archive)
 
 .DEFAULT_GOAL := help
 .PHONY: help check test ground fmt archive cli test-cli c-check sentences python-test test-scripts trials stack bench \
-    slowest fuzz samples vectors readme report-test
+    slowest fuzz samples expected vectors readme report-test
 
 help: ## this list
 	@awk -F ':.*## ' '/^[a-z-]+:.*## / { printf "  %-13s %s\n", $$1, $$2 }' Makefile
@@ -72,6 +72,9 @@ fuzz: $(ARCHIVE) ## the exported functions against the reference, SECONDS long (
 
 samples: ## the stored tracks of real encoders, good and damaged (python3)
 	samples/check ./intake
+
+expected: ## writes the samples' expected lines anew, by the reference (cargo)
+	$(TRIALS) expect samples/good-*.bundle samples/bad-*.bundle > samples/expected.txt
 
 readme: ## runs what the README shows and compares (cargo, a C compiler, python3, ffmpeg)
 	tools/readme

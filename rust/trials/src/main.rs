@@ -3,6 +3,7 @@
 mod bench;
 mod drawn;
 mod dump;
+mod expect;
 mod histogram;
 mod judge;
 mod options;
@@ -33,6 +34,8 @@ usage: trials run [--seed S] [--from K] [--cases N]
                                                    beside the reference
        trials vectors [--seed S] [--cases N] [--max BYTES]
                                                    write cases.bin, expected.txt, names.txt
+       trials expect FILE..                        what `intake` prints for bundles, under a line `== FILE` each
+       trials expect                               the same for standard input, without that line
        trials dump NAME                            write an example to standard output
        trials dump                                 list the names";
 
@@ -69,6 +72,7 @@ fn dispatch(command: &str, rest: &[String]) -> Result<(), String> {
             let max = options.get("max", 16_384) as usize;
             vectors::vectors(options.get("seed", 1), options.get("cases", 900), max)
         }
+        "expect" => expect::expect(rest),
         "dump" => dump::dump(rest),
         _ => Err(USAGE.to_string()),
     }
