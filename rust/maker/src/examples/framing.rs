@@ -102,12 +102,17 @@ impl List {
         }
     }
 
+    /// Document 01's smallest slices, T, and containers where they are none.
     pub fn indexes(&mut self) {
         self.add("no bytes", Job::Index, vec![], Answer::default());
         let one = |size| listed(&[(0, size, b"free", 0)]);
         self.add("8 bytes, free", Job::Index, short(8), one(8));
         self.add("16 bytes, free, long size 16", Job::Index, long(16), one(16));
-        self.add("7 bytes", Job::Index, vec![0; 7], Answer::refused(2, 0));
+        self.index("7 bytes", vec![0; 7], 2, 0);
+        for (size, number) in [(7, 3), (9, 4), (1, 2)] {
+            self.index(&format!("8 bytes, free, size {size}"), short(size), number, 0);
+        }
+        self.index(&format!("16 bytes, free, long size {}", u64::MAX), long(u64::MAX), 4, 0);
         let mut trak = Node::container(b"trak", vec![Node::leaf(b"moov", vec![0; 3])]);
         trak.header = Header::Long;
         let boxes = [Node::container(b"moov", vec![trak]), Node::leaf(b"trak", vec![1; 5])];
