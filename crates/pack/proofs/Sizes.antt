@@ -7,7 +7,7 @@ use native.Mathlib.Omega.{arith}
 use lib.IntN.{ℤ}
 use lib.ListN.{length, take}
 use lib.Seq.{length-take-le}
-use Rattle.record.specs.Header.{bundleLength}
+use Rattle.bundle.specs.Front.{bundleLength}
 use Rattle.pack.specs.declared.Size.{Size}
 use Rattle.pack.specs.declared.Size.the-variants.{Bytes}
 use Rattle.pack.specs.declared.File.{File}

@@ -4,7 +4,7 @@ use mathlib.Core.Bool.{Bool, true, false}
 use mathlib.Core.List.{List}
 use mathlib.Core.Path.{_≡_}
 use lib.ListN.{take}
-use Rattle.record.specs.Header.{bundleLength}
+use Rattle.bundle.specs.Front.{bundleLength}
 use Rattle.pack.specs.declared.Size.{Size}
 use Rattle.pack.specs.declared.Size.the-variants.{Bytes, Over, Unread}
 use Rattle.pack.specs.declared.File.{File}

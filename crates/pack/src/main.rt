@@ -9,7 +9,7 @@ use libc::STDOUT_FILENO;
 ghost use Prim.Native.Nat.{_+_, _≤_, _<_};
 ghost use mathlib.Core.Path.{_≡_};
 ghost use lib.ListN.{length, take, getD};
-ghost use Rattle.record.specs.Header.{headerOf, bundleLength};
+ghost use Rattle.bundle.specs.Front.{frontOf, bundleLength};
 ghost use Rattle.pack.specs.Sizes.{Counted, Readied, Fits, Reaches, Packed};
 
 // The bytes that a bundle may have.
@@ -181,14 +181,14 @@ fn copy(fd: i32, at: u64, size: u32, buf: &mut [u8]) -> Place
 // The six bytes in front of file k.
 fn head(sizes: &[u32], k: usize) -> [u8; 6]
     requires { ⌜ k < length (now sizes) ⌝ }
-    ensures { λ r. ⌜ r ≡ headerOf (getD (now (sizes .entry)) k 0) ⌝ }
+    ensures { λ r. ⌜ r ≡ frontOf (getD (now (sizes .entry)) k 0) ⌝ }
 {
-    record::header(sizes[k])
+    bundle::front(sizes[k])
 }
 
 // Writes six bytes at a place of the bundle, which have to be those in front of file k; answers where they end.
 fn put_head(six: &[u8; 6], sizes: &[u32], k: usize, at: u64) -> Place
-    requires { ⌜ (now six ≡ headerOf (getD (now sizes) k 0)) × (at ≡ bundleLength (take k (now sizes))) × (at ≤ 1073741824) ⌝ }
+    requires { ⌜ (now six ≡ frontOf (getD (now sizes) k 0)) × (at ≡ bundleLength (take k (now sizes))) × (at ≤ 1073741824) ⌝ }
     ensures { λ r. ⌜ Reaches r (at + 6) ⌝ }
 {
     if !io::write_all(STDOUT_FILENO, six) {

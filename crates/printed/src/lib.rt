@@ -21,5 +21,5 @@ pub fn answer(input: &[u8], out: &mut [u8; TEXT_ROOM]) -> usize
     }
     let mut table = [0u64; TABLE_ROOM];
     let v = set::check(input, &mut table);
-    lines::set_lines(set::tracks(input), v, &table, out)
+    lines::set_lines(bundle::tracks(input), v, &table, out)
 }

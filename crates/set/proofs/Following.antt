@@ -23,7 +23,7 @@ use Rattle.rules.specs.declared.Mark.the-variants.{Nothing, Wrong, Track}
 use Rattle.rules.specs.declared.Rule.{Rule}
 use Rattle.rules.specs.declared.Rule.the-variants.{Holds, Breaks}
 use Rattle.set.specs.Says.{restOf, allOf}
-use Rattle.set.proofs.Records.{here, full}
+use Rattle.bundle.proofs.Read.{here, full}
 
 module _ (b : List ℕ) (at k : ℕ) where
   module _ (h : k < recordLimit) where

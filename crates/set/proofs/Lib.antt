@@ -1,4 +1,3 @@
-pub mod Records
 pub mod Beside
 pub mod Comparing
 pub mod Following

@@ -20,7 +20,6 @@ use track::Judged;
 use track::START_ROOM;
 
 pub mod agree;
-pub mod bundle;
 
 // What was broken before a track, else what it breaks beside track 0.
 fn also(
@@ -138,18 +137,8 @@ pub fn check(b: &[u8], t: &mut [u64]) -> Verdict
     if BYTE_LIMIT < b.len() {
         return track::refused(1, 0, 0);
     }
-    match bundle::framed(b) {
+    match bundle::frame(b) {
         Bundled::Broken { track, place } => track::refused(24, track, place),
-        Bundled::Framed(_) => members(b, t),
-    }
-}
-
-// How many tracks a bundle has: its good records.
-pub fn tracks(b: &[u8]) -> u64
-    ensures { λ r. ⌜ r ≡ length (tracks (now (b .entry))) ⌝ }
-{
-    match bundle::framed(b) {
-        Bundled::Broken { track, place: _ } => track,
-        Bundled::Framed(k) => k,
+        Bundled::Records(_) => members(b, t),
     }
 }

@@ -3,8 +3,8 @@ use Prim.Native.Nat.{ℕ, _+_, _-_, _≤_}
 use mathlib.Core.Path.{_≡_, refl, ap}
 use lib.ListN.{length, take}
 use native.Mathlib.Omega.{arith}
-use Rattle.record.specs.Header.{bundleLength}
-use Rattle.record.proofs.Lengths.{stored-length}
+use Rattle.bundle.specs.Front.{bundleLength}
+use Rattle.bundle.proofs.Lengths.{stored-length}
 use Rattle.pack.proofs.Sizes.{readied}
 use borrow.Author.Needs.{needs}
 use Rattle.pack.proofs.open_all.Statement.{statement}

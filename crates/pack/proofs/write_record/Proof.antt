@@ -4,8 +4,8 @@ use mathlib.Core.Path.{_≡_, subst}
 use native.Mathlib.Omega.{arith}
 use lib.ListN.{take, getD}
 use denote.Ref.{now}
-use Rattle.record.specs.Header.{bundleLength}
-use Rattle.record.proofs.Lengths.{next-length}
+use Rattle.bundle.specs.Front.{bundleLength}
+use Rattle.bundle.proofs.Lengths.{next-length}
 use Rattle.pack.specs.Sizes.{Reaches}
 use Rattle.pack.proofs.Sizes.{reached}
 use borrow.Author.Needs.{needs}

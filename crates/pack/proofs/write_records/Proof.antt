@@ -5,8 +5,8 @@ use mathlib.Core.Path.{_≡_, refl, ap}
 use native.Mathlib.Omega.{arith}
 use lib.ListN.{length, take}
 use denote.Ref.{now}
-use Rattle.record.specs.Header.{bundleLength}
-use Rattle.record.proofs.Lengths.{fewer}
+use Rattle.bundle.specs.Front.{bundleLength}
+use Rattle.bundle.proofs.Lengths.{fewer}
 use Rattle.pack.proofs.Sizes.{reached}
 use borrow.Author.Needs.{needs}
 use Rattle.pack.proofs.write_records.Statement.{statement}

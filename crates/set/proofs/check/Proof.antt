@@ -15,14 +15,14 @@ returns c =
 
 members-requires : tie.Need-members-requires
 members-requires c κs =
-    let f = rw (c .before .enum-told .given .1) at (c .before .before .before .framed .ensures) in
+    let f = rw (c .before .enum-told .given .1) at (c .before .before .before .frame .ensures) in
     (c .before .before .before .before .if1 .left, f .0, omega (arith, f .1, f .2))
 
 returns-2 : tie.Need-returns-2
 returns-2 c =
     let a = c .before .before .before .before .before .before .before .before .args in
     refused-is (now (a .t)) 24 _ _ (c .refused2 .ensures)
-    ∙ badly-framed (now (a .b)) (now (a .t)) (c .before .before .before .before .before .if1 .left) ((rw (c .before .before .track .given .1) at (c .before .before .before .before .framed .ensures)) .0)
+    ∙ badly-framed (now (a .b)) (now (a .t)) (c .before .before .before .before .before .if1 .left) ((rw (c .before .before .track .given .1) at (c .before .before .before .before .frame .ensures)) .0)
 
 pub check-spec : {M : Type 1} → statement M
 check-spec = tie.close (tie.spec (λ c κs. search needs) returns (λ c κs. search needs) (λ c. search needs) (λ c κs. search needs) (λ c. search needs) members-requires returns-2 (λ c. search needs) (λ c. search needs))

@@ -12,8 +12,8 @@ use Rattle.rules.specs.Track.{rule1}
 use Rattle.rules.specs.Bundle.{rule24, tracks}
 use Rattle.rules.specs.declared.Rule.the-variants.{Holds}
 use Rattle.rules.proofs.Then.{must-true}
-use Rattle.record.specs.Header.{recordOf, bundleOf, Lengthed, bundleLength}
-use Rattle.record.proofs.Records.{packed, unpacked}
+use Rattle.bundle.specs.Front.{recordOf, bundleOf, Lengthed, bundleLength}
+use Rattle.bundle.proofs.Written.{packed, unpacked}
 
 -- one track more at the end
 more : (ns : List ℕ) (n : ℕ) → bundleLength (ns ++ (n ∷ [])) ≡ bundleLength ns + 6 + n

@@ -1,11 +1,11 @@
--- `set::bundle::record_at` meets its contract. Assumes nothing.
+-- `bundle::record_at` meets its contract. Assumes nothing.
 use mathlib.Core.Path.{sym, _∙_}
 use native.Mathlib.Omega.{arith}
 use borrow.Author.Needs.{needs}
 use denote.Ref.{now}
-use Rattle.set.proofs.Records.{mark-nothing, mark-short, mark-wrong, mark-beyond, mark-track}
-use Rattle.set.proofs.bundle.record_at.Statement.{statement}
-use Rattle.set.proofs.bundle.record_at.Tie as tie
+use Rattle.bundle.proofs.Read.{mark-nothing, mark-short, mark-wrong, mark-beyond, mark-track}
+use Rattle.bundle.proofs.record_at.Statement.{statement}
+use Rattle.bundle.proofs.record_at.Tie as tie
 
 returns : tie.Need-returns
 returns c = let a = c .before .before .args in (mark-nothing (now (a .b)) (a .at) (c .if1 .taken), tt)

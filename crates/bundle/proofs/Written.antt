@@ -12,7 +12,7 @@ use Rattle.numbers.proofs.Bounds.{Reads, reads2, reads4, in-drop}
 use Rattle.rules.specs.Bundle.{lengthed, markAt, recordAt, Records, none, track, recordsFrom, records, rule24From, rule24, tracksOf, tracks}
 use Rattle.rules.specs.declared.Mark.the-variants.{Nothing, Track}
 use Rattle.rules.specs.declared.Rule.the-variants.{Holds}
-use Rattle.record.specs.Header.{headerOf, recordOf, bundleOf, Lengthed}
+use Rattle.bundle.specs.Front.{frontOf, recordOf, bundleOf, Lengthed}
 
 -- four digits in base 256
 sum : (n c b a d₀ d₁ d₂ d₃ : ℕ) → c * 256 + d₀ ≡ n → b * 256 + d₁ ≡ c → a * 256 + d₂ ≡ b → d₃ ≡ a
@@ -51,10 +51,10 @@ behind : {m : ℕ} {f : List ℕ → ℕ → ℕ} → Reads m f → (p q : List 
 behind {f = f} r p q i = sym (in-drop r (length p) (p ++ q) i) ∙ ap (λ (l : List ℕ). f l i) (drop-append-seam p q)
 
 -- a header for n bytes and n bytes behind it are a track of n bytes, wherever they stand in a bundle
-pub framed : (p : List ℕ) (n : ℕ) (rest : List ℕ) → n < 2 ^ 32 → n ≤ length rest → recordAt (p ++ (headerOf n ++ rest)) (length p) ≡ Track n
+pub framed : (p : List ℕ) (n : ℕ) (rest : List ℕ) → n < 2 ^ 32 → n ≤ length rest → recordAt (p ++ (frontOf n ++ rest)) (length p) ≡ Track n
 unfolding be2 be4
 framed p n rest h g =
-    let q = headerOf n ++ rest in
+    let q = frontOf n ++ rest in
     let b = p ++ q in
     let start : be2 b (length p) ≡ be2 b (length p + 0) = ap (be2 b) (sym (add-zero (length p))) in
     marked b (length p) n (omega (arith, length-append p q)) (start ∙ behind reads2 p q 0 ∙ refl) (behind reads4 p q 2 ∙ bytes n h)
@@ -98,7 +98,7 @@ given p (s ∷ ss) =
     let rest = s ++ bundleOf ss in
     let next : length (p ++ recordOf s) ≡ length p + 6 + length s = omega (arith, length-append p (recordOf s)) in
     ap₂ (_∷_)
-    (ap (take (length s)) (drop-append-add p (headerOf (length s) ++ rest) 6) ∙ take-append-seam s (bundleOf ss))
+    (ap (take (length s)) (drop-append-add p (frontOf (length s) ++ rest) 6) ∙ take-append-seam s (bundleOf ss))
     (ap₂ tracksOf (sym (append-assoc p (recordOf s) (bundleOf ss))) (ap (λ (n : ℕ). shape n ss) (sym next))
     ∙ given (p ++ recordOf s) ss)
 

@@ -1,7 +1,7 @@
--- `set::bundle::ended` meets its contract. Assumes nothing.
+-- `bundle::ended` meets its contract. Assumes nothing.
 use borrow.Author.Tests.{eq-eqb, ne-eqb}
-use Rattle.set.proofs.bundle.ended.Statement.{statement}
-use Rattle.set.proofs.bundle.ended.Tie as tie
+use Rattle.bundle.proofs.ended.Statement.{statement}
+use Rattle.bundle.proofs.ended.Tie as tie
 
 returns : tie.Need-returns
 returns c = rw (eq-eqb _ _ (c .if1 .taken))

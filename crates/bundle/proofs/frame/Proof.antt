@@ -1,11 +1,11 @@
--- `set::bundle::framed` meets its contract. Assumes nothing.
+-- `bundle::frame` meets its contract. Assumes nothing.
 use Prim.Native.Nat.{_-_}
 use native.Mathlib.Omega.{arith}
 use borrow.Author.Needs.{needs}
 use Rattle.rules.specs.Limits.{recordLimit}
-use Rattle.set.proofs.Records.{Going, going-begins, going-on, going-wrong, going-nothing, going-more, going-full, going-ended}
-use Rattle.set.proofs.bundle.framed.Statement.{statement}
-use Rattle.set.proofs.bundle.framed.Tie as tie
+use Rattle.bundle.proofs.Read.{Going, going-begins, going-on, going-wrong, going-nothing, going-more, going-full, going-ended}
+use Rattle.bundle.proofs.frame.Statement.{statement}
+use Rattle.bundle.proofs.frame.Tie as tie
 
 abbrev Inv-loop : tie.InvT-loop
 Inv-loop b at₀ k₀ at k = Going b at k
@@ -43,8 +43,8 @@ returns-4 c =
     let g = c .before .before .before .loop .inv in
     going-ended _ g (c .ended2 .ensures) (going-full _ g (c .before .before .loop-test .left) (c .before .if1 .left))
 
-pub framed-spec : {M : Type 1} → statement M
-framed-spec =
+pub frame-spec : {M : Type 1} → statement M
+frame-spec =
     tie.close
     (tie.spec
     Inv-loop

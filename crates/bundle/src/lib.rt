@@ -1,8 +1,9 @@
-// The bundle: its records, and rule 24.
+// The bundle: its records read, rule 24, and the front of a record as bytes.
 ghost use mathlib.Core.Path.{_≡_};
 ghost use lib.ListN.{length};
-ghost use Rattle.rules.specs.Bundle.{recordAt};
-ghost use Rattle.set.specs.Says.{markBounds, saysBundle, endedOf};
+ghost use Rattle.rules.specs.Bundle.{recordAt, tracks};
+ghost use Rattle.bundle.specs.Says.{markBounds, saysBundle, endedOf};
+ghost use Rattle.bundle.specs.Front.{frontOf};
 use rules::Mark;
 
 // Rule 24: the records of a bundle.
@@ -13,7 +14,7 @@ const MARK: u32 = 0x5357;
 
 // How a bundle is framed: its number of records, or the first bad one with the good ones before it.
 pub enum Bundled {
-    Framed(u64),
+    Records(u64),
     Broken { track: u64, place: u64 },
 }
 
@@ -40,7 +41,7 @@ pub fn record_at(b: &[u8], at: usize) -> Mark
 }
 
 // Rule 24 of a bundle.
-pub fn framed(b: &[u8]) -> Bundled
+pub fn frame(b: &[u8]) -> Bundled
     ensures { λ r. ⌜ saysBundle r (now (b .entry)) ⌝ }
 {
     let mut at: usize = 0;
@@ -79,5 +80,29 @@ fn ended(k: u64) -> Bundled
     if k == 0 {
         return Bundled::Broken { track: 0, place: 0 };
     }
-    Bundled::Framed(k)
+    Bundled::Records(k)
+}
+
+// How many tracks a bundle has: its good records.
+pub fn tracks(b: &[u8]) -> u64
+    ensures { λ r. ⌜ r ≡ length (tracks (now (b .entry))) ⌝ }
+{
+    match frame(b) {
+        Bundled::Broken { track, place: _ } => track,
+        Bundled::Records(k) => k,
+    }
+}
+
+// The mark and the length, as the six bytes in front of a track of so many bytes.
+pub fn front(length: u32) -> [u8; 6]
+    ensures { λ r. ⌜ r ≡ frontOf length ⌝ }
+{
+    [
+        0x53,
+        0x57,
+        (length / 16777216 % 256) as u8,
+        (length / 65536 % 256) as u8,
+        (length / 256 % 256) as u8,
+        (length % 256) as u8,
+    ]
 }

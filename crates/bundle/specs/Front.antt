@@ -4,12 +4,12 @@ use mathlib.Core.List.{List, [], _∷_, _++_}
 use lib.ListN.{length}
 
 -- the mark, and a length in four bytes
-abbrev pub headerOf : ℕ → List ℕ
-headerOf n = 0x53 ∷ 0x57 ∷ n / 16777216 % 256 ∷ n / 65536 % 256 ∷ n / 256 % 256 ∷ n % 256 ∷ []
+abbrev pub frontOf : ℕ → List ℕ
+frontOf n = 0x53 ∷ 0x57 ∷ n / 16777216 % 256 ∷ n / 65536 % 256 ∷ n / 256 % 256 ∷ n % 256 ∷ []
 
 -- a track's record
 abbrev pub recordOf : List ℕ → List ℕ
-recordOf s = headerOf (length s) ++ s
+recordOf s = frontOf (length s) ++ s
 
 -- the bundle of tracks, their records one behind the other
 unfoldable pub bundleOf : List (List ℕ) → List ℕ

@@ -13,7 +13,7 @@ use Rattle.rules.specs.Bundle.{mark, lengthed, markAt, recordAt, onMark, Record
 use Rattle.rules.specs.declared.Mark.{Mark}
 use Rattle.rules.specs.declared.Mark.the-variants.{Nothing, Wrong, Track}
 use Rattle.rules.specs.declared.Rule.the-variants.{Holds, Breaks}
-use Rattle.set.specs.Says.{saysBundle, endedOf}
+use Rattle.bundle.specs.Says.{saysBundle, endedOf}
 
 module _ (b : List ℕ) (at : ℕ) where
   pub mark-nothing : length b ≤ at → Nothing ≡ recordAt b at
@@ -113,7 +113,7 @@ module _ (b : List ℕ) {at k : ℕ} (g : Going b at k) where
     going-full i = full b at k h ∙ ap (λ (t : Bool). when t (wrong at) none) (le-ltb at (length b) i)
 
   -- no bytes are left
-  pub going-ended : {r : Rattle.set.specs.declared.bundle.Bundled.Bundled} → r ≡ endedOf k → recordsFrom (recordLimit - k) b at ≡ none → saysBundle r b
+  pub going-ended : {r : Rattle.bundle.specs.declared.Bundled.Bundled} → r ≡ endedOf k → recordsFrom (recordLimit - k) b at ≡ none → saysBundle r b
   unfolding rule24From tracksOf
   going-ended {r} e n =
       rw e (ended-says b k (g .rule ∙ ap (rule24From k) n) (omega (arith, g .count, ap (λ (x : Records). length (tracksOf b x)) n)))
