@@ -1,5 +1,4 @@
 pub mod Containers
 pub mod Headers
 pub mod Walks
-pub mod Moved
-pub mod Sights
+pub mod Stands

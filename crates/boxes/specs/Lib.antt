@@ -1,3 +1,3 @@
 pub mod Bounds
 pub mod Siblings
-pub mod Sights
+pub mod Stands

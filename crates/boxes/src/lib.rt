@@ -1,4 +1,4 @@
-// Boxes in bytes: one header, the containers, the sibling boxes of a type, and five wanted types counted in one walk.
+// Boxes in bytes: one header, the containers, the sibling boxes of a type.
 pub mod kinds;
 
 use kinds::DINF;
@@ -8,23 +8,18 @@ use kinds::MINF;
 use kinds::MOOF;
 use kinds::MOOV;
 use kinds::MVEX;
-use kinds::SMHD;
 use kinds::STBL;
-use kinds::STHD;
 use kinds::TRAF;
 use kinds::TRAK;
-use kinds::VMHD;
 use rules::Inside;
 use rules::Look;
 use rules::Path;
 ghost use mathlib.Core.Path.{_≡_};
-ghost use Prim.Native.Nat.{_-_, _<_, _≤_};
+ghost use Prim.Native.Nat.{_-_, _≤_};
 ghost use lib.ListN.{length};
-ghost use Rattle.rules.specs.Kinds.{isMedia, named};
 ghost use Rattle.rules.specs.Boxes.{look, sized, inside};
 ghost use Rattle.boxes.specs.Bounds.{lookBounds};
 ghost use Rattle.boxes.specs.Siblings.{nextOf};
-ghost use Rattle.boxes.specs.Sights.{Again, SawFive};
 
 // A header of some bytes that says a size, at a place of a slice of a length. The size is compared with the bytes that are left:
 // its sum with the place may not fit.
@@ -104,6 +99,13 @@ pub fn inside(path: Path, kind: u32) -> Inside
     }
 }
 
+// Where a box stands in a slice: its place, its header's length and its whole size.
+pub struct Spot {
+    pub at: usize,
+    pub head: usize,
+    pub size: usize,
+}
+
 // The next box of a type: its place and where it ends.
 pub enum Next {
     At { place: usize, next: usize },
@@ -125,115 +127,5 @@ pub fn next_of(s: &[u8], at: usize, kind: u32) -> Next
             return Next::At { place: here, next };
         }
         here = next;
-    }
-}
-
-// Whether a type is one of the three media headers.
-fn is_media(kind: u32) -> bool
-    ensures { λ r. ⌜ r ≡ isMedia kind ⌝ }
-{
-    match kind {
-        VMHD => true,
-        SMHD => true,
-        STHD => true,
-        _ => false,
-    }
-}
-
-// Whether a box of a type is wanted; 0 wants any of the three media headers.
-pub fn named(want: u32, kind: u32) -> bool
-    ensures { λ r. ⌜ r ≡ named want kind ⌝ }
-{
-    if want == 0 {
-        return is_media(kind);
-    }
-    kind == want
-}
-
-// Where the first and the second box of a type stand; 0 where there is none.
-pub struct Sight {
-    pub first: usize,
-    pub second: usize,
-}
-
-// What is seen after one box more at a place.
-pub fn again(v: Sight, at: usize) -> Sight
-    requires { ⌜ 0 < at ⌝ }
-    ensures { λ r. ⌜ Again v at r ⌝ }
-{
-    if v.first == 0 {
-        return Sight {
-            first: at,
-            second: 0,
-        };
-    }
-    if v.second == 0 {
-        return Sight {
-            first: v.first,
-            second: at,
-        };
-    }
-    v
-}
-
-// A want that nobody looks at.
-pub const NONE: u32 = 1;
-
-// What is seen of five wanted types.
-pub struct Five {
-    pub a: Sight,
-    pub b: Sight,
-    pub c: Sight,
-    pub d: Sight,
-    pub e: Sight,
-}
-
-// What is seen of five wanted types among the sibling boxes of a slice from a place on; only the first may be the media headers.
-pub fn tally(s: &[u8], from: usize, v: u32, w: u32, x: u32, y: u32, z: u32) -> Five
-    requires { ⌜ (0 < from) × (0 < w) × (0 < x) × (0 < y) × (0 < z) ⌝ }
-    ensures { λ r. ⌜ SawFive (now (s .entry)) from v w x y z r ⌝ }
-{
-    let mut at = from;
-    let mut a = Sight {
-        first: 0,
-        second: 0,
-    };
-    let mut b = Sight {
-        first: 0,
-        second: 0,
-    };
-    let mut c = Sight {
-        first: 0,
-        second: 0,
-    };
-    let mut d = Sight {
-        first: 0,
-        second: 0,
-    };
-    let mut e = Sight {
-        first: 0,
-        second: 0,
-    };
-    loop {
-        let l = look(s, at);
-        let Look::Header { size, kind, .. } = l else {
-            return Five { a, b, c, d, e };
-        };
-        if named(v, kind) {
-            a = again(a, at);
-        }
-        if kind == w {
-            b = again(b, at);
-        }
-        if kind == x {
-            c = again(c, at);
-        }
-        if kind == y {
-            d = again(d, at);
-        }
-        if kind == z {
-            e = again(e, at);
-        }
-        at += size;
     }
 }

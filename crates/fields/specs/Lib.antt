@@ -1,3 +1,1 @@
-pub mod Behind
-pub mod Extent
-pub mod Full
+pub mod Versions

@@ -1,28 +1,39 @@
--- Laws of the first box of a type: what is seen first is the first of the places.
+-- Laws of the first box that an entry counts: where it is seen, and that a walk over the runs may begin there.
 use mathlib.Core.Path.{_≡_, refl, sym, ap, _∙_}
 use mathlib.Core.List.{List, [], _∷_}
 use mathlib.Core.Bool.{Bool, true, false}
-use Prim.Native.Nat.{ℕ, zero, suc, _+_, _-_, _<_, _≤_}
+use Prim.Native.Nat.{ℕ, zero, suc, _+_, _-_, _≤_}
 use native.Mathlib.Omega.{arith}
-use lib.ListN.{length}
+use lib.ListN.{length, take}
+use lib.Seq.{length-take-le}
 use lib.Dec.{eqb}
-use borrow.Author.Tests.{eqb-true}
+use borrow.Author.Tests.{eq-eqb, ne-eqb}
 use Rattle.numbers.specs.Numbers.{when}
-use Rattle.rules.specs.Kinds.{named}
-use Rattle.rules.specs.Boxes.{Box, look, boxes, placesOf, seen, seenFrom, again, firstOf}
-use Rattle.rules.specs.Header.{someOf}
+use Rattle.rules.specs.Kinds.{trun}
+use Rattle.rules.specs.Boxes.{Box, look, boxes, kids, placesOf, headOf, sizeOf}
+use Rattle.rules.specs.Counts.{wanted, again, seenFrom, seen, firstOf, firstIn, child, someOf, counted, counts}
+use Rattle.rules.specs.Fragment.{trafIn, firstRun, runsIn, rule14}
+use Rattle.rules.specs.declared.Entry.{Entry}
+use Rattle.rules.specs.declared.Entry.the-variants.{One, OneOrMore}
 use Rattle.rules.specs.declared.Look.{Look}
 use Rattle.rules.specs.declared.Look.the-variants.{Nothing, Short, Small, Beyond, Header}
 use Rattle.rules.specs.declared.Rule.the-variants.{Holds}
 use Rattle.rules.specs.declared.Seen.{Seen}
 use Rattle.rules.specs.declared.Seen.the-variants.{Never, Once, Twice}
-use Rattle.rules.proofs.Forest.{look-found, boxes-by, places-hit, places-miss, places-end}
-use Rattle.boxes.specs.Siblings.{Comes}
-use Rattle.boxes.proofs.Walks.{passed-none, comes}
-use Rattle.boxes.proofs.Sights.{named-is}
+use Rattle.rules.proofs.Forest.{look-found, boxes-by, places-miss, seen-box, seen-end}
+use Rattle.rules.proofs.Then.{broken, then-first, then-second}
+use Rattle.boxes.specs.Stands.{Stands}
+use Rattle.boxes.specs.declared.Spot.{Spot}
+use Rattle.boxes.proofs.Walks.{found, told-header}
+use Rattle.boxes.proofs.Stands.{stands}
+use Rattle.counts.specs.Sights.{spotOf, Sighted}
+use Rattle.counts.specs.declared.Sight.{Sight}
+use Rattle.counts.proofs.Firsts.{first-stands, first-is}
+use Rattle.fragment.specs.Layout.{StandsAt}
+use Rattle.fragment.specs.Runs.{runsAt}
 
 -- something was seen, and a was first
-pub data Since (a : ℕ) : Seen → Type 0 where
+data Since (a : ℕ) : Seen → Type 0 where
   once : Since a (Once a)
   twice : {b : ℕ} → Since a (Twice a b)
 
@@ -31,80 +42,113 @@ since-again true at once = twice
 since-again true at twice = twice
 since-again false at i = i
 
-pub since-first : {a : ℕ} {v : Seen} → Since a v → firstOf v ≡ a
-since-first once = refl
-since-first twice = refl
-
--- enough is then seen
-pub since-some : {a : ℕ} {v : Seen} (n container : ℕ) → Since a v → someOf n container v ≡ Holds
-unfolding someOf
-since-some n container once = refl
-since-some n container twice = refl
+since-first : {a : ℕ} {v : Seen} (p : ℕ) → Since a v → firstOf p v ≡ a
+since-first p once = refl
+since-first p twice = refl
 
 -- what was seen first stays first
-pub first-stays : {a : ℕ} {v : Seen} (w : ℕ) (xs : List Box) → Since a v → Since a (seenFrom v w xs)
+first-stays : {a : ℕ} {v : Seen} (e : Entry) (xs : List Box) → Since a v → Since a (seenFrom v e xs)
 unfolding seenFrom
-first-stays w [] i = i
-first-stays w (x ∷ xs) i = first-stays w xs (since-again (named w (x .kind)) (x .at) i)
+first-stays e [] i = i
+first-stays e (x ∷ xs) i = first-stays e xs (since-again (wanted e (x .kind)) (x .at) i)
 
--- the first place of a list, 0 where there is none
-abbrev headOr0 : List ℕ → ℕ
-headOr0 [] = 0
-headOr0 (p ∷ ps) = p
+-- what is seen from a place on, by what stands there: no box, one that counts, one that does not
+module _ (s : List ℕ) (at : ℕ) (e : Entry) where
+  pub first-none : (p : ℕ) → boxes s at ≡ [] → firstOf p (seen e (boxes s at)) ≡ p
+  first-none p o = ap (firstOf p) (seen-end s at Never e o)
 
--- what is seen first is the first of the places
-first-place : (w : ℕ) → 0 < w → (xs : List Box) → firstOf (seen w xs) ≡ headOr0 (placesOf w xs)
-unfolding seenFrom placesOf
-first-place w h [] = refl
-first-place w h (x ∷ xs) =
-    let b : (t : Bool) → firstOf (seenFrom (when t (Once (x .at)) Never) w xs) ≡ headOr0 (when t (x .at ∷ placesOf w xs) (placesOf w xs))
-    = elim [ true ↦ since-first (first-stays w xs once) | false ↦ first-place w h xs ] in
-    rw (named-is w (x .kind) h) (b (eqb (x .kind) w))
+  module _ (h z k : ℕ) (l : look s at ≡ Header h z k) where
+    pub first-here : (p : ℕ) → wanted e k ≡ true → firstOf p (seen e (boxes s at)) ≡ at
+    first-here p y =
+        ap (firstOf p) (seen-box s at Never e h z k l ∙ ap (λ (t : Bool). seenFrom (when t (Once at) Never) e (boxes s (at + z))) y)
+        ∙ since-first p (first-stays e (boxes s (at + z)) once)
 
-module _ (s : List ℕ) (w : ℕ) (h : 0 < w) where
-  pub first-is : {p : ℕ} {ps : List ℕ} → placesOf w (boxes s 0) ≡ p ∷ ps → p ≡ firstOf (seen w (boxes s 0))
-  first-is e = sym (first-place w h (boxes s 0) ∙ ap headOr0 e)
+    pub first-later : wanted e k ≡ false → seen e (boxes s at) ≡ seen e (boxes s (at + z))
+    first-later n = seen-box s at Never e h z k l ∙ ap (λ (t : Bool). seenFrom (when t (Once at) Never) e (boxes s (at + z))) n
 
-  pub none-is : placesOf w (boxes s 0) ≡ [] → 0 ≡ firstOf (seen w (boxes s 0))
-  none-is e = sym (first-place w h (boxes s 0) ∙ ap headOr0 e)
+-- a walk over the boxes of a type, of which there is one, may begin at the first
+module _ (s : List ℕ) (w n c p : ℕ) where
+  abbrev sees : ℕ → Seen
+  sees at = seen (OneOrMore w) (boxes s at)
 
--- from a place on there is no box of a type, or a first one
-data Begins (s : List ℕ) (at k : ℕ) : Type 0 where
-  none : placesOf k (boxes s at) ≡ [] → Begins s at k
-  some : {p q : ℕ} → Comes s at k p q → Begins s at k
+  abbrev Skips : ℕ → Type 0
+  Skips at = someOf n c (sees at) ≡ Holds → placesOf w (boxes s at) ≡ placesOf w (boxes s (firstOf p (sees at)))
 
-later : (s : List ℕ) (at z k : ℕ) → placesOf k (boxes s at) ≡ placesOf k (boxes s (at + z)) → Begins s (at + z) k → Begins s at k
-later s at z k e (none n) = none (e ∙ n)
-later s at z k e (some c) =
-    some (record { places = e ∙ c .places; header = c .header; size = c .size; from = omega (arith, c .from); past = c .past; inner = c .inner })
+  skips-none : (at : ℕ) → boxes s at ≡ [] → Skips at
+  unfolding someOf
+  skips-none at o some = absurd (broken (sym (ap (someOf n c) (seen-end s at Never (OneOrMore w) o)) ∙ some))
 
-begins-by : (s : List ℕ) (k at : ℕ) (l : Look) → l ≡ look s at → ((z : ℕ) → 8 ≤ z → at + z ≤ length s → Begins s (at + z) k) → Begins s at k
-begins-by s k at Nothing e more = none (places-end s at k (boxes-by s at Nothing (sym e)))
-begins-by s k at Short e more = none (places-end s at k (boxes-by s at Short (sym e)))
-begins-by s k at Small e more = none (places-end s at k (boxes-by s at Small (sym e)))
-begins-by s k at Beyond e more = none (places-end s at k (boxes-by s at Beyond (sym e)))
-begins-by s k at (Header h z w) e more =
-    let f = look-found s at h z w (sym e) in
-    let by : (t : Bool) → eqb w k ≡ t → Begins s at k
-    = elim [
-      | true ↦ λ y. some (comes s at e refl (passed-none s at k) (eqb-true w k y))
-      | false ↦ λ n. later s at z k (places-miss s at k h z w (sym e) n) (more z (omega (arith, f .low, f .holds)) (f .fits))
-    ] in
-    by (eqb w k) refl
+  skips-by : (at : ℕ) (l : Look) → look s at ≡ l → ((z : ℕ) → 8 ≤ z → at + z ≤ length s → Skips (at + z)) → Skips at
+  unfolding wanted
+  skips-by at Nothing e more = skips-none at (boxes-by s at Nothing e)
+  skips-by at Short e more = skips-none at (boxes-by s at Short e)
+  skips-by at Small e more = skips-none at (boxes-by s at Small e)
+  skips-by at Beyond e more = skips-none at (boxes-by s at Beyond e)
+  skips-by at (Header h z k) e more =
+      let f = look-found s at h z k e in
+      let by : (t : Bool) → eqb k w ≡ t → Skips at
+      = elim [
+        | true ↦ λ y some. ap (λ (q : ℕ). placesOf w (boxes s q)) (sym (first-here s at (OneOrMore w) h z k e p y))
+        | false ↦ λ y.
+            let g = first-later s at (OneOrMore w) h z k e y in
+            λ some.
+            places-miss s at w h z k e y
+            ∙ more z (omega (arith, f .low, f .holds)) (f .fits) (ap (someOf n c) (sym g) ∙ some)
+            ∙ ap (λ (v : Seen). placesOf w (boxes s (firstOf p v))) (sym g)
+      ] in
+      by (eqb k w) refl
 
-begins : (s : List ℕ) (k f at : ℕ) → length s - at ≤ f → Begins s at k
-begins s k zero at h = begins-by s k at (look s at) refl (λ z a b. absurd (omega (arith, h, a, b)))
-begins s k (suc f) at h = begins-by s k at (look s at) refl (λ z a b. begins s k f (at + z) (omega (arith, h, a, b)))
+  skips-from : (f at : ℕ) → length s - at ≤ f → Skips at
+  skips-from zero at h = skips-by at (look s at) refl (λ z a b. absurd (omega (arith, h, a, b)))
+  skips-from (suc f) at h = skips-by at (look s at) refl (λ z a b. skips-from f (at + z) (omega (arith, h, a, b)))
 
--- a walk over the boxes of a type may begin at the first of them
-pub skips : (s : List ℕ) (w : ℕ) → 0 < w → placesOf w (boxes s 0) ≡ placesOf w (boxes s (firstOf (seen w (boxes s 0))))
-skips s w h =
-    let by : Begins s 0 w → placesOf w (boxes s 0) ≡ placesOf w (boxes s (firstOf (seen w (boxes s 0))))
-    = elim [
-      | none e ↦ ap (λ (p : ℕ). placesOf w (boxes s p)) (none-is s w h e)
-      | some {p} {q} c ↦
-          c .places
-          ∙ sym (places-hit s p _ _ w (c .header) ∙ ap (λ (y : ℕ). p ∷ placesOf w (boxes s y)) (sym (c .size)))
-          ∙ ap (λ (y : ℕ). placesOf w (boxes s y)) (first-is s w h (c .places))
-    ] in
-    by (begins s w (length s) 0 (omega arith))
+-- the runs are those from the first on in the front up to the end of the `traf`
+module _ (m : List ℕ) (right : rule14 m ≡ Holds) where
+  some-run : someOf 14 (trafIn m) (seen (OneOrMore trun) (kids m (trafIn m))) ≡ Holds
+  unfolding rule14 counts counted
+  some-run = then-first _ _ (then-second _ _ (then-second _ _ (then-second _ _ right)))
+
+  pub front-runs :
+      (t r : Spot) → StandsAt m (trafIn m) t → StandsAt m (firstRun m) r → runsAt (take (t .at + t .size) m) (r .at) ≡ runsIn m
+  unfolding runsAt runsIn firstRun firstIn kids
+  front-runs t r st sr =
+      let at = trafIn m in
+      let s = take (at + sizeOf m at) m in
+      rw (← st .stands .size, st .place, sr .place) (sym (skips-from s trun 14 at at (length s) (at + headOf m at) (omega arith) some-run))
+
+-- a front of a slice
+pub front-is : (m : List ℕ) (n : ℕ) → n ≤ length m → take n m ≡ take (length (take n m)) m
+front-is m n h = ap (λ (k : ℕ). take k m) (sym (length-take-le n m h))
+
+-- the first box of a type in a container, by the boxes from a place on
+module _ (m : List ℕ) (x : Spot) (st : Stands m x) (w at : ℕ) where
+  abbrev front : List ℕ
+  front = take (x .at + x .size) m
+
+  abbrev FromHere : Type 0
+  FromHere = seen (One w) (boxes front (x .at + x .head)) ≡ seen (One w) (boxes front at)
+
+  child-is : FromHere → (q : ℕ) → firstOf (x .at) (seen (One w) (boxes front at)) ≡ q → q ≡ child m (x .at) w
+  unfolding firstIn kids
+  child-is i q e = sym (rw (st .size, st .head) (ap (firstOf (x .at)) i ∙ e))
+
+  pub child-none : FromHere → boxes front at ≡ [] → StandsAt m (child m (x .at) w) x
+  child-none i o = record { stands = st; place = child-is i (x .at) (first-none front at (One w) (x .at) o) }
+
+  module _ {h z k : ℕ} {l : Look} (e : l ≡ look front at) (t : l ≡ Header h z k) where
+    pub child-here : FromHere → k ≡ w → StandsAt m (child m (x .at) w) (record { at = at; head = h; size = z })
+    unfolding wanted
+    child-here i q =
+        record {
+          stands = stands m front (front-is m (x .at + x .size) (st .fits)) (found front at e t);
+          place = child-is i at (first-here front at (One w) h z k (told-header front at e t) (x .at) (eq-eqb k w q));
+        }
+
+    pub child-later : FromHere → (k ≡ w → ⊥) → seen (One w) (boxes front (x .at + x .head)) ≡ seen (One w) (boxes front (at + z))
+    unfolding wanted
+    child-later i n = i ∙ first-later front at (One w) h z k (told-header front at e t) (ne-eqb k w n)
+
+-- the first box seen of an entry stands where it is
+pub sighted :
+    (m : List ℕ) (x b : Spot) (e : Entry) (v : Sight) → Stands m x → Sighted m (x .at) e v → b ≡ spotOf v x → StandsAt m (firstIn m (x .at) e) b
+sighted m x b e v st g q = rw q (record { stands = first-stands st g; place = first-is x g })

@@ -1,10 +1,10 @@
--- Laws of flags: the bytes that a flag stands for, and how far apart that puts the samples.
+-- Laws of flags: the bytes that a flag stands for, and what that says of sizes and places.
 use mathlib.Core.Path.{_≡_}
 use mathlib.Core.Bool.{true, false}
-use Prim.Native.Nat.{ℕ, _≤_}
+use Prim.Native.Nat.{ℕ, _+_, _≤_}
 use native.Mathlib.Omega.{arith}
 use Rattle.numbers.specs.Numbers.{has}
-use Rattle.rules.specs.Fragment.{bytesFor, stride}
+use Rattle.rules.specs.Fragment.{bytesFor, tfhdSize, runHead, stride}
 
 pub bytes-set : (n f w : ℕ) → has f w ≡ true → bytesFor n f w ≡ n
 unfolding bytesFor
@@ -26,3 +26,29 @@ stride-bytes f e = omega (arith, bytes-set 4 f 0x200 e)
 pub stride-both : (f : ℕ) → has f 0x100 ≡ true → has f 0x200 ≡ true → 8 ≤ stride f
 unfolding stride
 stride-both f e h = omega (arith, bytes-set 4 f 0x100 e, bytes-set 4 f 0x200 h)
+
+-- the defaults of a `tfhd` that are there end in it
+pub reach-duration : (f : ℕ) → has f 0x8 ≡ true → 8 + bytesFor 8 f 0x1 + bytesFor 4 f 0x2 + 12 ≤ tfhdSize f
+unfolding tfhdSize
+reach-duration f e = omega (arith, bytes-set 4 f 0x8 e)
+
+pub reach-size : (f : ℕ) → has f 0x10 ≡ true → 8 + bytesFor 8 f 0x1 + bytesFor 4 f 0x2 + bytesFor 4 f 0x8 + 12 ≤ tfhdSize f
+unfolding tfhdSize
+reach-size f e = omega (arith, bytes-set 4 f 0x10 e)
+
+pub reach-flags : (f : ℕ) → has f 0x20 ≡ true → 8 + bytesFor 8 f 0x1 + bytesFor 4 f 0x2 + bytesFor 4 f 0x8 + bytesFor 4 f 0x10 + 12 ≤ tfhdSize f
+unfolding tfhdSize
+reach-flags f e = omega (arith, bytes-set 4 f 0x20 e)
+
+-- the first sample's flags of a run that are there end in it, and so does its offset
+pub reach-first : (f : ℕ) → has f 0x4 ≡ true → 8 + bytesFor 4 f 0x1 + 4 ≤ runHead f
+unfolding runHead
+reach-first f e = omega (arith, bytes-set 4 f 0x4 e)
+
+pub reach-own : (f : ℕ) → has f 0x400 ≡ true → bytesFor 4 f 0x100 + bytesFor 4 f 0x200 + 4 ≤ stride f
+unfolding stride
+reach-own f e = omega (arith, bytes-set 4 f 0x400 e)
+
+pub reach-offset : (f : ℕ) → has f 0x1 ≡ true → 12 ≤ runHead f
+unfolding runHead
+reach-offset f e = omega (arith, bytes-set 4 f 0x1 e)

@@ -1,10 +1,6 @@
-pub mod Counted
 pub mod First
 pub mod Flags
+pub mod Formed
 pub mod Judged
-pub mod Sized
-pub mod Standing
 pub mod Sums
-pub mod Tile
-pub mod Timed
 pub mod Walk

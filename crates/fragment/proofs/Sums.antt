@@ -1,16 +1,23 @@
 -- Laws of sums over samples: one more, equal terms, a constant term, and places a step apart.
 use mathlib.Core.Path.{_≡_, refl, sym, ap, _∙_}
 use mathlib.Core.List.{List}
-use mathlib.Core.Bool.{true, false}
+use mathlib.Core.Bool.{Bool, true, false, not}
 use Prim.Native.Nat.{ℕ, zero, suc, _+_, _*_, _<_, _≤_}
 use native.Mathlib.Nat.{le-antisymm, mul-suc, mul-zero, zero-mul, suc-mul, mul-le-mul-left, mul-le-mul}
 use native.Mathlib.Numerals.{add-one}
 use native.Mathlib.Omega.{arith}
+use lib.Dec.{eqb}
 use Rattle.numbers.specs.Numbers.{be4, has, when}
 use Rattle.rules.specs.Boxes.{headOf}
-use Rattle.rules.specs.Header.{field}
+use Rattle.rules.specs.Fields.{flagsOf, field}
+use Rattle.rules.specs.Rules.{_then_, must}
+use Rattle.rules.specs.declared.Rule.{Rule}
 use Rattle.rules.specs.declared.Defaults.{Defaults}
-use Rattle.rules.specs.Fragment.{bytesFor, flagsOf, runHead, stride, sampleAt, durationOf, bytesOf, sumTo}
+use Rattle.boxes.specs.declared.Spot.{Spot}
+use Rattle.rules.specs.Fragment.{bytesFor, runHead, stride, sampleAt, durationOf, bytesOf, sumTo, runDuration, runBytes, firstFlagsOf, placed}
+use Rattle.fragment.specs.Bodies.{Filled}
+use Rattle.fragment.specs.Runs.{Small, AndSamples}
+use Rattle.fragment.specs.declared.runs.Span.{Span}
 use Rattle.fragment.specs.Samples.{every, ownTicks, ownBytes, Summed}
 
 -- a step that is whole inside as many steps
@@ -97,3 +104,26 @@ module _ (m : List ℕ) (d : Defaults) (at n sum : ℕ) where
   run-bytes from step f p q e =
       summed-same (ownBytes m from step f (d .size)) (bytesOf m d at) n sum
       (λ i. rw (← e, ← q, p) (ap (λ (x : ℕ). when (has f 0x200) (be4 m x) (d .size)) (omega arith)))
+
+-- what samples span with those of a run more
+module _ (m : List ℕ) (d : Defaults) (from before : ℕ) (r : Spot) (f n : ℕ) (p : Filled m r f n) (a : Span) (small : Small before a) where
+  pub span-more :
+      (g step t u : ℕ) → g ≡ r .at + r .head + runHead f → step ≡ stride f →
+      Summed (ownTicks m g step f (d .duration)) n t → Summed (ownBytes m g step f (d .size)) n u →
+      (own sync : Bool) (q tiled : Rule) → own ≡ placed (a .lead) m (r .at) (from + a .bytes) →
+      sync ≡ when (eqb before 0) (when (eqb n 0) (a .sync) (not (has (firstFlagsOf m d (r .at)) 0x10000))) (a .sync) →
+      q ≡ must own 22 (r .at) → tiled ≡ (a .tiled then q) →
+      AndSamples m d from before (r .at) n a (record { ticks = a .ticks + t; bytes = a .bytes + u; lead = false; sync = sync; tiled = tiled })
+  unfolding runDuration runBytes
+  span-more g step t u place apart v′ y′ own sync q tiled offset first test told =
+      let fields : g ≡ r .at + headOf m (r .at) + runHead f = rw (p .stands .head) place in
+      let v = run-ticks m d (r .at) n t g step f fields apart (p .flags) v′ in
+      let y = run-bytes m d (r .at) n u g step f fields apart (p .flags) y′ in
+      record {
+        ticks = rw (← p .count, ← v .total);
+        bytes = rw (← p .count, ← y .total);
+        lead = refl;
+        sync = first;
+        tiled = rw (← offset, ← test) told;
+        small = (omega (arith, v .small, small .0), omega (arith, y .small, small .1));
+      }

@@ -1,82 +1,169 @@
--- Laws of the walk over a front of the `moof`: the runs in it box by box, and what a survey knows of those passed.
+-- Laws of the walk over the runs: one run more, and the runs in a front of the `moof` box by box.
 use mathlib.Core.Path.{_≡_, refl, sym, ap, subst, _∙_}
 use mathlib.Core.List.{List, [], _∷_}
 use mathlib.Core.Bool.{Bool, true, false, not, _&&_}
-use Prim.Native.Nat.{ℕ, _+_, _*_, _≤_}
+use Prim.Native.Nat.{ℕ, _+_, _*_, _<_, _≤_}
+use native.Mathlib.Nat.{mul-suc, mul-zero, mul-le-mul-left}
 use native.Mathlib.Omega.{arith}
-use native.Mathlib.Nat.{mul-le-mul}
-use lib.ListN.{length, take, length-take}
-use lib.Dec.{eqb}
+use lib.ListN.{length}
+use lib.Dec.{eqb, leb}
 use types.Run.{OneOf}
 use denote.Enum.Declared.{tagOf}
-use borrow.Author.Tests.{eq-eqb, ne-eqb, eqb-true, eqb-false}
-use Rattle.numbers.specs.Numbers.{be4, be8, has, when}
-use Rattle.numbers.proofs.Bounds.{Reads, reads4, reads8, in-take}
+use borrow.Author.Tests.{eq-eqb, ne-eqb, eqb-true, eqb-false, leb-true, leb-false}
+use Rattle.numbers.specs.Numbers.{has, when}
 use Rattle.rules.specs.Kinds.{trun}
-use Rattle.rules.specs.Boxes.{look, boxes, placesOf, headOf, sizeOf}
+use Rattle.rules.specs.Limits.{sampleLimit}
+use Rattle.rules.specs.Boxes.{look, boxes, placesOf}
 use Rattle.rules.specs.Rules.{_then_, must}
-use Rattle.rules.specs.Fragment.{flagsOf, runSized, rule15runs, rule16runs, samplesOf}
+use Rattle.rules.specs.Fields.{flagsOf, body}
+use Rattle.rules.specs.Fragment.{runHead, stride, countOf, runForm, rule15runs, rule16runs, samplesOf, runBytes, durationsOf, bytesIn, firstFlagsOf, firstFlags, rule22runs}
 use Rattle.rules.specs.declared.Look.{Look}
 use Rattle.rules.specs.declared.Look.the-variants.{Header}
 use Rattle.rules.specs.declared.Rule.{Rule}
 use Rattle.rules.specs.declared.Rule.the-variants.{Holds, Breaks}
+use Rattle.rules.specs.declared.Defaults.{Defaults}
 use Rattle.rules.proofs.Look.{the-type}
-use Rattle.rules.proofs.Forest.{Found, places-hit, places-miss, places-end}
-use Rattle.rules.proofs.Then.{then-holds, then-last, then-assoc, then-both, must-true, must-holds, broken}
+use Rattle.rules.proofs.Forest.{places-hit, places-miss, places-end}
+use Rattle.rules.proofs.Then.{then-holds, then-breaks, then-assoc, then-first}
+use Rattle.boxes.specs.declared.Spot.{Spot}
 use Rattle.boxes.proofs.Walks.{over, told-header}
-use Rattle.fragment.specs.Runs.{runsAt, ruleAt, Framed, saysTrun, AndRun, Surveys}
-use Rattle.fragment.specs.declared.runs.Trun.{Trun}
-use Rattle.fragment.specs.declared.runs.Trun.the-variants.{Run, Wrong}
-use Rattle.fragment.specs.declared.runs.Runs.{Runs}
+use Rattle.fragment.specs.Bodies.{Filled}
+use Rattle.fragment.specs.Runs.{runsAt, Local, Due, saysDue, AndSamples, Tiles, Walked}
+use Rattle.fragment.specs.declared.runs.Span.{Span}
+use Rattle.fragment.specs.declared.runs.Totals.{Totals}
 
--- a rule that breaks nowhere, and one that breaks first at a place
-pub at-none : (n p : ℕ) → p ≡ 0 → ruleAt n p ≡ Holds
-unfolding ruleAt
-at-none n p e = rw (eq-eqb p 0 e)
+-- sums are asked for where the samples are few
+pub due-by : (want : Bool) (clash : Rule) (samples : ℕ) → want ≡ true → clash ≡ Holds → saysDue (leb samples sampleLimit) want clash samples
+due-by want clash samples w h =
+    let by : (t : Bool) → leb samples sampleLimit ≡ t → saysDue t want clash samples
+    = elim [
+      | true ↦ λ y. (w, h, leb-true samples sampleLimit y)
+      | false ↦ λ y d. omega (arith, d .2, leb-false samples sampleLimit y)
+    ] in
+    by (leb samples sampleLimit) refl
 
-pub at-some : (n p : ℕ) → (p ≡ 0 → ⊥) → ruleAt n p ≡ Breaks n 0 p
-unfolding ruleAt
-at-some n p e = rw (ne-eqb p 0 e)
+-- a run that is filled: all fields stand in the slice, and the first sample's in the run
+module _ (m : List ℕ) (r : Spot) (f n : ℕ) (p : Filled m r f n) where
+  pub all-inside : r .at + r .head + runHead f + stride f * n ≤ length m
+  all-inside = omega (arith, p .fills, p .stands .fits)
 
--- one that holds breaks nowhere
-pub at-clear : (n p : ℕ) → ruleAt n p ≡ Holds → p ≡ 0
-at-clear n p e =
-    let by : (t : Bool) → eqb p 0 ≡ t → p ≡ 0
-    = elim [ true ↦ λ y. eqb-true p 0 y | false ↦ λ y. absurd (broken (sym (at-some n p (eqb-false p 0 y)) ∙ e)) ] in
-    by (eqb p 0) refl
+  pub one-inside : (n ≡ 0 → ⊥) → r .head + runHead f + stride f ≤ r .size
+  one-inside some =
+      let h : 0 < n = omega (arith, some) in
+      omega (arith, p .fills, mul-suc (stride f) 0, mul-zero (stride f), mul-le-mul-left (stride f) h)
 
--- how large the samples' fields of a run get
-pub own-fits : (s n : ℕ) → s ≤ 16 → n ≤ 4294967295 → s * n ≤ 68719476720
-own-fits s n h k = omega (arith, mul-le-mul {n₁ = s} {m₁ = n} {n₂ = 16} {m₂ = 4294967295} h k)
+-- a local rule, then another; a local test
+pub local-then : (n : ℕ) (a b : Rule) → Local n a → Local n b → Local n (a then b)
+unfolding _then_
+local-then n Holds b h k = k
+local-then n (Breaks i t p) b h k = h
 
--- a slice that is the front of another
-module _ (m s : List ℕ) (e : s ≡ take (length s) m) where
-  front-low : length s ≤ length m
-  front-low = omega (arith, ap length e, length-take (length s) m)
+pub local-must : (n : ℕ) (t : Bool) (k p : ℕ) → p ≤ n → Local n (must t k p)
+unfolding must
+local-must n true k p h = tt
+local-must n false k p h = (refl, h)
 
-  in-front : {n : ℕ} {f : List ℕ → ℕ → ℕ} → Reads n f → (i : ℕ) → i + n ≤ length s → f s i ≡ f m i
-  in-front {f = f} r i h = ap (λ (t : List ℕ). f t i) e ∙ in-take r (length s) m i h
+-- the first sample after a run more
+first-on :
+    (s n : ℕ) (x next : Bool) (here rest : ℕ) → next ≡ when (eqb s 0) (when (eqb n 0) x (not (has here 0x10000))) x →
+    when (eqb s 0) (not (has (when (eqb n 0) rest here) 0x10000)) x ≡ when (eqb (s + n) 0) (not (has rest 0x10000)) next
+first-on s n x next here rest e =
+    let by : (t u : Bool) → eqb s 0 ≡ t → eqb n 0 ≡ u →
+    when (eqb s 0) (not (has (when (eqb n 0) rest here) 0x10000)) x ≡ when (eqb (s + n) 0) (not (has rest 0x10000)) next
+    = elim [
+      | true ↦ elim [
+        | true ↦ λ y z. rw (y, z, eq-eqb (s + n) 0 (omega (arith, eqb-true s 0 y, eqb-true n 0 z)))
+        | false ↦ λ y z. rw (e, y, z, ne-eqb (s + n) 0 (λ o. eqb-false n 0 z (omega (arith, o))))
+      ]
+      | false ↦ λ u y z. rw (e, y, ne-eqb (s + n) 0 (λ o. eqb-false s 0 y (omega (arith, o))))
+    ] in
+    by (eqb s 0) (eqb n 0) refl refl
 
-  -- a box in it stands so in the other too
-  pub framed : {at h z k : ℕ} → Found s at h z k → Framed m at h z
-  unfolding headOf sizeOf
-  framed {at} {h} {z} {k} d =
-      let short : be4 s at ≡ be4 m at = in-front reads4 at (omega (arith, d)) in
-      let by : (t : Bool) → eqb (be4 s at) 1 ≡ t → when (eqb (be4 s at) 1) (be8 m (at + 8)) (be4 m at) ≡ z
-      = elim [
-        | true ↦ λ y.
-            rw y
-            (sym (in-front reads8 (at + 8) (omega (arith, d .low, d .holds, d .fits, rw y at (d .head)))) ∙ rw y at (d .size))
-        | false ↦ λ y. rw y (sym short ∙ rw y at (d .size))
-      ] in
+-- sums that are asked for after a run were before
+pub due-before-run :
+    (want : Bool) (t : Totals) (clash q : Rule) (n : ℕ) → clash ≡ (t .clash then q) → Due want clash (t .samples + n) → Due want (t .clash) (t .samples)
+due-before-run want t clash q n told due = (due .0, then-first (t .clash) q (sym told ∙ due .1), omega (arith, due .2))
+
+-- before the first run
+pub walked-none :
+    (m : List ℕ) (want : Bool) (d : Defaults) (from : ℕ) (all : List ℕ) →
+    Walked m want d from all all (record { clash = Holds; samples = 0; span = record { ticks = 0; bytes = 0; lead = true; sync = true; tiled = Holds } })
+walked-none m want d from all =
+    record {
+      sized = refl;
+      clash = sym (then-holds _ refl);
+      samples = omega arith;
+      sums = λ e.
+          record {
+            ticks = omega arith;
+            bytes = omega arith;
+            sync = refl;
+            tiled = sym (then-holds _ refl ∙ ap (λ (p : ℕ). rule22runs m d true p all) (omega arith));
+          };
+      low = λ e. (omega arith, omega arith);
+      clashLocal = tt;
+      tiledLocal = tt;
+    }
+
+-- past the next run, which has its form
+module _ (m : List ℕ) (want : Bool) (d : Defaults) (from : ℕ) (all : List ℕ) (r : ℕ) (rest : List ℕ) (t : Totals)
+    (w : Walked m want d from all (r ∷ rest) t) (right : body 15 (runForm m r) m r ≡ Holds) (low : r ≤ length m)
+    (f n : ℕ) (flags : f ≡ flagsOf m r) (count : n ≡ countOf m r)
+    (ok : Bool) (tested : ok ≡ not (has f 0x4 && has f 0x400)) (clash : Rule) (told : clash ≡ (t .clash then must ok 16 r)) where
+  sized-on : rule15runs m all ≡ rule15runs m rest
+  unfolding rule15runs
+  sized-on = w .sized ∙ then-holds _ right
+
+  clash-on : rule16runs m all ≡ (clash then rule16runs m rest)
+  unfolding rule16runs
+  clash-on = w .clash ∙ rw (told, tested, flags) (sym (then-assoc (t .clash) _ (rule16runs m rest)))
+
+  samples-on : samplesOf m all ≡ t .samples + n + samplesOf m rest
+  unfolding samplesOf
+  samples-on = omega (arith, w .samples, count)
+
+  clash-local : Local (length m) clash
+  clash-local = rw told (local-then (length m) (t .clash) (must ok 16 r) (w .clashLocal) (local-must (length m) ok 16 r low))
+
+  -- where sums are not asked for
+  pub walked-out : (Due want clash (t .samples + n) → ⊥) → Walked m want d from all rest (record { clash = clash; samples = t .samples + n; span = t .span })
+  walked-out idle =
       record {
-        head = rw (← short) (d .head);
-        size = ap (λ (n : ℕ). when (eqb n 1) (be8 m (at + 8)) (be4 m at)) (sym short) ∙ by (eqb (be4 s at) 1) refl;
-        low = d .low;
-        high = d .high;
-        holds = d .holds;
-        fits = omega (arith, d .fits, front-low);
+        sized = sized-on;
+        clash = clash-on;
+        samples = samples-on;
+        sums = λ e. absurd (idle e);
+        low = λ e. absurd (idle e);
+        clashLocal = clash-local;
+        tiledLocal = w .tiledLocal;
       }
+
+  -- where they are
+  module _ (due : Due want clash (t .samples + n)) where
+    module _ (b : Span) (s : AndSamples m d from (t .samples) r n (t .span) b) where
+      tiles-on : Tiles m d from all rest (t .samples + n) b
+      unfolding durationsOf bytesIn firstFlags rule22runs
+      tiles-on =
+          let a = w .sums (due-before-run want t clash (must ok 16 r) n told due) in
+          let place : from + t .span .bytes + runBytes m d r ≡ from + b .bytes = omega (arith, s .bytes) in
+          record {
+            ticks = omega (arith, a .ticks, s .ticks);
+            bytes = omega (arith, a .bytes, s .bytes);
+            sync = a .sync ∙ rw (← count) (first-on (t .samples) n (t .span .sync) (b .sync) (firstFlagsOf m d r) (firstFlags m d rest) (s .sync));
+            tiled = a .tiled ∙ rw (place, s .tiled, s .lead) (sym (then-assoc (t .span .tiled) _ _));
+          }
+
+      pub walked-in : Walked m want d from all rest (record { clash = clash; samples = t .samples + n; span = b })
+      walked-in =
+          record {
+            sized = sized-on;
+            clash = clash-on;
+            samples = samples-on;
+            sums = λ e. tiles-on;
+            low = λ e. s .small;
+            clashLocal = clash-local;
+            tiledLocal = rw (s .tiled) (local-then (length m) (t .span .tiled) _ (w .tiledLocal) (local-must (length m) _ 22 r low));
+          }
 
 -- the runs from a place on, by what stands there
 module _ (s : List ℕ) (at : ℕ) {l : Look} (e : l ≡ look s at) where
@@ -94,82 +181,11 @@ module _ (s : List ℕ) (at : ℕ) {l : Look} (e : l ≡ look s at) where
     unfolding runsAt
     runs-same n = places-miss s at trun h z k (told-header s at e t) (ne-eqb k trun n)
 
--- one run more: one that is sized otherwise, and one that counts
-module _ (base : ℕ) (m : List ℕ) (at : ℕ) (r : Runs) {y : Trun} (told : saysTrun y m at) where
-  pub and-wrong :
-      y ≡ Wrong → (p : ℕ) → ruleAt 15 p ≡ (ruleAt 15 (r .missized) then must false 15 (base + at)) →
-      AndRun base m at r (record { missized = p; clash = r .clash; samples = r .samples })
-  and-wrong w p e =
-      let t : runSized m at ≡ false = subst (λ (z : Trun). saysTrun z m at) w told in
-      record {
-        missized = rw t e;
-        clash = λ x. cc;
-        samples = λ x. cc;
-        low = omega arith;
-      }
+-- all runs passed, a box passed that is no run, and a run that has another form
+module _ (m : List ℕ) (want : Bool) (d : Defaults) (from : ℕ) (all left : List ℕ) (t : Totals) (w : Walked m want d from all left t) where
+  pub walked-same : (rest : List ℕ) → left ≡ rest → Walked m want d from all rest t
+  walked-same rest e = subst (λ (rs : List ℕ). Walked m want d from all rs t) e w
 
-  pub and-sized :
-      (f n : ℕ) → y ≡ Run f n → (ok : Bool) → ok ≡ not (has f 0x4 && has f 0x400) →
-      (c : ℕ) → ruleAt 16 c ≡ (ruleAt 16 (r .clash) then must ok 16 (base + at)) → n ≤ 4294967295 →
-      AndRun base m at r (record { missized = r .missized; clash = c; samples = r .samples + n })
-  and-sized f n w ok o c e low =
-      let t = subst (λ (z : Trun). saysTrun z m at) w told in
-      record {
-        missized = sym (ap (λ (q : Rule). ruleAt 15 (r .missized) then q) (must-true 15 (base + at) (t .0)) ∙ then-last (ruleAt 15 (r .missized)));
-        clash = λ x. rw (← t .1, ← o) e;
-        samples = λ x. ap (λ (k : ℕ). r .samples + k) (t .2);
-        low = omega (arith, low);
-      }
-
--- what a survey knows of all runs where some are left: rule 15 of those passed, and, where it holds, rule 16 and their samples
-pub record Surveyed (base : ℕ) (m : List ℕ) (all left : List ℕ) (r : Runs) : Type 0 where
-  pub sized : rule15runs base m all ≡ (ruleAt 15 (r .missized) then rule15runs base m left)
-  pub clash : r .missized ≡ 0 → rule16runs base m all ≡ (ruleAt 16 (r .clash) then rule16runs base m left)
-  pub samples : r .missized ≡ 0 → samplesOf m all ≡ r .samples + samplesOf m left
-
-pub surveyed-none : (base : ℕ) (m all : List ℕ) → Surveyed base m all all (record { missized = 0; clash = 0; samples = 0 })
-unfolding ruleAt
-surveyed-none base m all =
-    record { sized = sym (then-holds _ refl); clash = λ e. sym (then-holds _ refl); samples = λ e. omega arith }
-
-module _ (base : ℕ) (m all left : List ℕ) (r : Runs) (s : Surveyed base m all left r) where
-  pub surveyed-all : left ≡ [] → Surveys base m all r
-  unfolding rule15runs rule16runs samplesOf
-  surveyed-all o =
-      record {
-        sized =
-            sym (s .sized ∙ ap (λ (rs : List ℕ). ruleAt 15 (r .missized) then rule15runs base m rs) o ∙ then-last (ruleAt 15 (r .missized)));
-        clash = λ e.
-            sym (s .clash e ∙ ap (λ (rs : List ℕ). ruleAt 16 (r .clash) then rule16runs base m rs) o ∙ then-last (ruleAt 16 (r .clash)));
-        samples = λ e. omega (arith, s .samples e, ap (samplesOf m) o);
-      }
-
-  -- past a box that is no run
-  pub surveyed-same : (rest : List ℕ) → left ≡ rest → Surveyed base m all rest r
-  surveyed-same rest e = subst (λ (rs : List ℕ). Surveyed base m all rs r) e s
-
-  -- past a run
-  module _ (at : ℕ) (rest : List ℕ) (more : left ≡ at ∷ rest) (q : Runs) (a : AndRun base m at r q) where
-    both : q .missized ≡ 0 → (ruleAt 15 (r .missized) ≡ Holds) × (must (runSized m at) 15 (base + at) ≡ Holds)
-    both e = then-both _ _ (sym (a .missized) ∙ at-none 15 (q .missized) e)
-
-    before : q .missized ≡ 0 → r .missized ≡ 0
-    before e = at-clear 15 (r .missized) (both e .0)
-
-    sized-at : q .missized ≡ 0 → runSized m at ≡ true
-    sized-at e = must-holds (runSized m at) 15 (base + at) (both e .1)
-
-    pub surveyed-more : Surveyed base m all rest q
-    unfolding rule15runs rule16runs samplesOf
-    surveyed-more =
-        record {
-          sized =
-              s .sized
-              ∙ ap (λ (rs : List ℕ). ruleAt 15 (r .missized) then rule15runs base m rs) more
-              ∙ rw (a .missized) (sym (then-assoc (ruleAt 15 (r .missized)) (must (runSized m at) 15 (base + at)) (rule15runs base m rest)));
-          clash = λ e.
-              s .clash (before e)
-              ∙ ap (λ (rs : List ℕ). ruleAt 16 (r .clash) then rule16runs base m rs) more
-              ∙ rw (a .clash (sized-at e)) (sym (then-assoc (ruleAt 16 (r .clash)) (must (not (has (flagsOf m at) 0x4 && has (flagsOf m at) 0x400)) 16 (base + at)) (rule16runs base m rest)));
-          samples = λ e. omega (arith, s .samples (before e), ap (samplesOf m) more, a .samples (sized-at e));
-        }
+  pub walked-wrong : (r : ℕ) (rest : List ℕ) → left ≡ r ∷ rest → body 15 (runForm m r) m r ≡ Breaks 15 0 r → rule15runs m all ≡ Breaks 15 0 r
+  unfolding rule15runs
+  walked-wrong r rest e wrong = w .sized ∙ ap (rule15runs m) e ∙ then-breaks _ wrong

@@ -1,64 +1,88 @@
--- The runs of a fragment: where they stand, and what the readers of one and of all answer.
-use Prim.Native.Nat.{ℕ, _+_, _≤_}
+-- The runs of a fragment: what the walk over them knows, and what it answers.
+use Prim.Native.Nat.{ℕ, _+_, _*_, _≤_}
 use mathlib.Core.Path.{_≡_}
-use mathlib.Core.List.{List}
-use mathlib.Core.Bool.{true, false, not, _&&_}
+use mathlib.Core.List.{List, [], _∷_}
+use mathlib.Core.Bool.{Bool, true, false, not}
 use lib.ListN.{length}
 use lib.Dec.{eqb}
 use Rattle.numbers.specs.Numbers.{has, when}
 use Rattle.rules.specs.Kinds.{trun}
-use Rattle.rules.specs.Boxes.{boxes, headOf, sizeOf, placesOf}
+use Rattle.rules.specs.Limits.{sampleLimit}
+use Rattle.rules.specs.Boxes.{boxes, placesOf}
 use Rattle.rules.specs.Rules.{_then_, must}
-use Rattle.rules.specs.Fragment.{flagsOf, countOf, runSized, rule15runs, rule16runs, samplesOf, durationsOf, bytesIn, firstFlags, rule22runs}
+use Rattle.rules.specs.Fields.{body}
+use Rattle.rules.specs.Fragment.{runForm, placed, firstFlagsOf, runDuration, runBytes, samplesOf, durationsOf, bytesIn, firstFlags}
+use Rattle.rules.specs.Fragment.{rule15runs, rule16runs, rule22runs}
 use Rattle.rules.specs.declared.Rule.{Rule}
 use Rattle.rules.specs.declared.Rule.the-variants.{Holds, Breaks}
 use Rattle.rules.specs.declared.Defaults.{Defaults}
-use Rattle.fragment.specs.declared.runs.Trun.{Trun}
-use Rattle.fragment.specs.declared.runs.Trun.the-variants.{Run, Wrong}
-use Rattle.fragment.specs.declared.runs.Runs.{Runs}
+use Rattle.boxes.specs.declared.Spot.{Spot}
+use Rattle.fragment.specs.declared.runs.Span.{Span}
 use Rattle.fragment.specs.declared.runs.Totals.{Totals}
+use Rattle.fragment.specs.declared.runs.Runs.{Runs}
+use Rattle.fragment.specs.declared.runs.Runs.the-variants.{Of, Wrong}
 
 -- the places of the runs in a slice from a place on
 unfoldable pub runsAt : List ℕ → ℕ → List ℕ
 runsAt s at = placesOf trun (boxes s at)
 
--- rule n, by the first place where it breaks, 0 where there is none; a fragment knows no track number, so it is 0
-unfoldable pub ruleAt : ℕ → ℕ → Rule
-ruleAt n p = when (eqb p 0) Holds (Breaks n 0 p)
+-- a rule of a fragment: where it breaks it names no track, and a place up to n
+abbrev pub Local : ℕ → Rule → Type 0
+Local n Holds = Unit {0}
+Local n (Breaks k t p) = (t ≡ 0) × (p ≤ n)
 
--- the box at a place has a header of h bytes and the size z, and ends in the slice
-pub record Framed (m : List ℕ) (at h z : ℕ) : Type 0 where
-  pub head : headOf m at ≡ h
-  pub size : sizeOf m at ≡ z
-  pub low : 8 ≤ h
-  pub high : h ≤ 16
-  pub holds : h ≤ z
-  pub fits : at + z ≤ length m
+-- sums are asked for: they are wanted, rule 16 holds so far, and the samples are few so far
+abbrev pub Due : Bool → Rule → ℕ → Type 0
+Due want clash samples = (want ≡ true) × (clash ≡ Holds) × (samples ≤ sampleLimit)
 
--- a run is sized by its flags and its count; or it is not
-abbrev pub saysTrun : Trun → List ℕ → ℕ → Type 0
-saysTrun (Run f n) m r = (runSized m r ≡ true) × (f ≡ flagsOf m r) × (n ≡ countOf m r)
-saysTrun Wrong m r = runSized m r ≡ false
+abbrev pub saysDue : Bool → Bool → Rule → ℕ → Type 0
+saysDue true want clash samples = Due want clash samples
+saysDue false want clash samples = Due want clash samples → ⊥
 
--- q is what runs say, r, with the one at a place: one that is sized otherwise is the first such, if none was before; any other counts
-pub record AndRun (base : ℕ) (m : List ℕ) (at : ℕ) (r q : Runs) : Type 0 where
-  pub missized : ruleAt 15 (q .missized) ≡ (ruleAt 15 (r .missized) then must (runSized m at) 15 (base + at))
-  pub clash :
-      runSized m at ≡ true →
-      ruleAt 16 (q .clash) ≡ (ruleAt 16 (r .clash) then must (not (has (flagsOf m at) 0x4 && has (flagsOf m at) 0x400)) 16 (base + at))
-  pub samples : runSized m at ≡ true → q .samples ≡ r .samples + countOf m at
-  pub low : q .samples ≤ r .samples + 4294967295
+-- sums over so many samples, each of 32 bits
+abbrev pub Small : ℕ → Span → Type 0
+Small samples a = (a .ticks ≤ 4294967295 * samples) × (a .bytes ≤ 4294967295 * samples)
 
--- what runs say by themselves: rule 15, and, where it holds, rule 16 and their samples in all
-pub record Surveys (base : ℕ) (m : List ℕ) (rs : List ℕ) (r : Runs) : Type 0 where
-  pub sized : ruleAt 15 (r .missized) ≡ rule15runs base m rs
-  pub clash : r .missized ≡ 0 → ruleAt 16 (r .clash) ≡ rule16runs base m rs
-  pub samples : r .missized ≡ 0 → r .samples ≡ samplesOf m rs
+-- those that are asked for are such
+abbrev pub Low : Bool → Totals → Type 0
+Low want t = Due want (t .clash) (t .samples) → Small (t .samples) (t .span)
 
--- what the samples of runs come to whose bytes begin at a place: the durations, the sizes, the first sample and the offsets
-pub record Tiles (base : ℕ) (m : List ℕ) (d : Defaults) (from : ℕ) (rs : List ℕ) (r : Totals) : Type 0 where
-  pub ticks : r .ticks ≡ durationsOf m d rs
-  pub bytes : r .bytes ≡ bytesIn m d rs
-  pub first : r .first ≡ firstFlags m d rs
-  pub tiled : ruleAt 22 (r .tiled) ≡ rule22runs base m d true from rs
-  pub ticksLow : r .ticks ≤ 281474976645120
+-- b is what samples span, a, with the n of the run at a place, after so many samples, where the bytes of all begin at a place
+pub record AndSamples (m : List ℕ) (d : Defaults) (from before r n : ℕ) (a b : Span) : Type 0 where
+  pub ticks : b .ticks ≡ a .ticks + runDuration m d r
+  pub bytes : b .bytes ≡ a .bytes + runBytes m d r
+  pub lead : b .lead ≡ false
+  pub sync : b .sync ≡ when (eqb before 0) (when (eqb n 0) (a .sync) (not (has (firstFlagsOf m d r) 0x10000))) (a .sync)
+  pub tiled : b .tiled ≡ (a .tiled then must (placed (a .lead) m r (from + a .bytes)) 22 r)
+  pub small : Small (before + n) b
+
+-- what the samples of the runs passed span, so many, where some of all are left and the bytes of all begin at a place
+pub record Tiles (m : List ℕ) (d : Defaults) (from : ℕ) (all left : List ℕ) (samples : ℕ) (a : Span) : Type 0 where
+  pub ticks : durationsOf m d all ≡ a .ticks + durationsOf m d left
+  pub bytes : bytesIn m d all ≡ a .bytes + bytesIn m d left
+  pub sync : not (has (firstFlags m d all) 0x10000) ≡ when (eqb samples 0) (not (has (firstFlags m d left) 0x10000)) (a .sync)
+  pub tiled : rule22runs m d true from all ≡ (a .tiled then rule22runs m d (a .lead) (from + a .bytes) left)
+
+-- what the walk knows of all runs where some are left: rules 15 and 16 of those passed, their samples, and the sums, where they are asked for
+pub record Walked (m : List ℕ) (want : Bool) (d : Defaults) (from : ℕ) (all left : List ℕ) (t : Totals) : Type 0 where
+  pub sized : rule15runs m all ≡ rule15runs m left
+  pub clash : rule16runs m all ≡ (t .clash then rule16runs m left)
+  pub samples : samplesOf m all ≡ t .samples + samplesOf m left
+  pub sums : Due want (t .clash) (t .samples) → Tiles m d from all left (t .samples) (t .span)
+  pub low : Low want t
+  pub clashLocal : Local (length m) (t .clash)
+  pub tiledLocal : Local (length m) (t .span .tiled)
+
+-- what is known where the run at a place is left is known where it is passed
+abbrev pub Onward : List ℕ → Bool → Defaults → ℕ → ℕ → Totals → Totals → Type 0
+Onward m want d from r t u = (all rest : List ℕ) → Walked m want d from all (r ∷ rest) t → Walked m want d from all rest u
+
+-- one run more, or the place of one that has another form
+abbrev pub saysNext : Runs → List ℕ → Spot → Bool → Defaults → ℕ → Totals → Type 0
+saysNext (Of u) m r want d from t = Onward m want d from (r .at) t u × (u .samples ≤ t .samples + 4294967295)
+saysNext (Wrong p) m r want d from t = body 15 (runForm m (r .at)) m (r .at) ≡ Breaks 15 0 (r .at)
+
+-- what all runs come to, or the place of the first that has another form
+abbrev pub saysRuns : Runs → List ℕ → Bool → Defaults → ℕ → List ℕ → Type 0
+saysRuns (Of t) m want d from rs = Walked m want d from rs [] t
+saysRuns (Wrong p) m want d from rs = (rule15runs m rs ≡ Breaks 15 0 p) × (p ≤ length m)

@@ -1,34 +1,47 @@
 // Rule 15: the bodies of a fragment's boxes, each by a reader of its own.
-ghost use mathlib.Core.Path.{_≡_};
-ghost use Prim.Native.Nat.{_≤_};
-ghost use lib.ListN.{length};
-ghost use Rattle.rules.specs.Fragment.{runsIn};
-ghost use Rattle.fragment.specs.Counts.{Stand};
-ghost use Rattle.fragment.specs.Runs.{Surveys};
-ghost use Rattle.fragment.specs.Bodies.{timeAt, saysMfhd, saysTfhd, saysStart, saysBodies};
-use crate::counts::Moof;
+ghost use Rattle.rules.specs.Fragment.{mfhdIn, tfhdIn, tfdtIn};
+ghost use Rattle.boxes.specs.Stands.{Stands};
+ghost use Rattle.fragment.specs.Layout.{StandsAt};
+ghost use Rattle.fragment.specs.Bodies.{saysMfhd, saysTfhd, saysTfdt, saysTrun};
 use crate::layout;
+use boxes::Spot;
+use fields::Version;
 use rules::Defaults;
 
-// What an `mfhd` says: nothing that a rule asks for, or that it is sized otherwise.
+// What an `mfhd` says: nothing that a rule asks for, or that it has another form.
 pub enum Mfhd {
     Plain,
     Wrong,
 }
 
-// What a `tfhd` says: its flags, its track ID and the defaults with its own, or that it is sized otherwise.
+// What a `tfhd` says: its flags, its track ID and the defaults with its own, or that it has another form.
 pub enum Tfhd {
     Of { flags: u32, id: u32, own: Defaults },
     Wrong,
 }
 
-// What a `tfdt` says: the fragment's start, or that it is sized otherwise.
-pub enum Start {
+// What a `tfdt` says: the fragment's start, or that it has another form.
+pub enum Tfdt {
     At(u64),
     Wrong,
 }
 
-// What the bodies of a fragment's boxes say: the flags and the track ID of `tfhd`, the start, and the defaults with the fragment's own.
+// What a `trun` says: its flags and its samples, or that it has another form.
+pub enum Trun {
+    Run { flags: u32, count: u32 },
+    Wrong,
+}
+
+// Where the boxes of a fragment stand in its `moof`, of the runs the first.
+pub struct Moof {
+    pub mfhd: Spot,
+    pub traf: Spot,
+    pub tfhd: Spot,
+    pub tfdt: Spot,
+    pub run: Spot,
+}
+
+// What the bodies before the runs say: the flags and the track ID of `tfhd`, the start, and the defaults with the fragment's own.
 pub struct Body {
     pub flags: u32,
     pub id: u32,
@@ -36,107 +49,66 @@ pub struct Body {
     pub own: Defaults,
 }
 
-// The bodies are sized, or the place of rule 15's refusal.
-pub enum Bodies {
-    Known(Body),
-    Refused(u64),
+// The `mfhd`: 16, version 0.
+pub fn read_mfhd(m: &[u8], b: Spot) -> Mfhd
+    requires { ⌜ StandsAt (now m) (mfhdIn (now m)) b ⌝ }
+    ensures { λ r. ⌜ saysMfhd r (now (m .entry)) ⌝ }
+{
+    if fields::is_plain(m, b, 16) {
+        Mfhd::Plain
+    } else {
+        Mfhd::Wrong
+    }
 }
 
-// The `mfhd` at a place: 16, version 0.
-fn read_mfhd(m: &[u8], at: usize) -> Mfhd
-    ensures { λ r. ⌜ saysMfhd r (now (m .entry)) at ⌝ }
+// The `tfhd`: version 0, sized by its flags; with the `trex` defaults.
+pub fn read_tfhd(m: &[u8], b: Spot, d: Defaults) -> Tfhd
+    requires { ⌜ StandsAt (now m) (tfhdIn (now m)) b ⌝ }
+    ensures { λ r. ⌜ saysTfhd r (now (m .entry)) d ⌝ }
 {
-    let f = fields::full_at(m, at);
-    if f.version != 0 {
-        return Mfhd::Wrong;
-    }
-    if f.size != 16 {
-        return Mfhd::Wrong;
-    }
-    Mfhd::Plain
-}
-
-// The `tfhd` at a place: version 0, sized by its flags; with the `trex` defaults.
-fn read_tfhd(m: &[u8], at: usize, d: Defaults) -> Tfhd
-    requires { ⌜ at ≤ 17179869184 ⌝ }
-    ensures { λ r. ⌜ saysTfhd r (now (m .entry)) at d ⌝ }
-{
-    let f = fields::full_at(m, at);
-    let flags = f.flags;
-    let behind = at + f.head;
-    if f.version != 0 {
+    if b.size - b.head < 8 {
         return Tfhd::Wrong;
     }
-    if f.size != layout::tfhd_size(flags) {
+    let flags = fields::flags(m, b);
+    if !fields::is_plain(m, b, layout::tfhd_size(flags)) {
         return Tfhd::Wrong;
     }
     Tfhd::Of {
         flags,
-        id: numbers::be4(m, behind + 4),
-        own: layout::defaults_behind(m, behind, flags, d),
+        id: fields::word(m, b, 4),
+        own: layout::defaults(m, b, flags, d),
     }
 }
 
-// The time of the `tfdt` at a place.
-pub fn time_at(m: &[u8], at: usize) -> u64
-    ensures { λ r. ⌜ r ≡ timeAt (now (m .entry)) at ⌝ }
+// The `tfdt`: 16 (version 0) or 20 (version 1).
+pub fn read_tfdt(m: &[u8], b: Spot) -> Tfdt
+    requires { ⌜ StandsAt (now m) (tfdtIn (now m)) b ⌝ }
+    ensures { λ r. ⌜ saysTfdt r (now (m .entry)) ⌝ }
 {
-    let version = fields::version(m, at);
-    if version == 1 {
-        fields::field8(m, at, 4)
-    } else {
-        fields::field(m, at, 4) as u64
+    let version = fields::versioned(m, b, 16, 20);
+    match version {
+        Version::Zero => Tfdt::At(fields::word(m, b, 4) as u64),
+        Version::One => Tfdt::At(fields::double(m, b, 4)),
+        Version::Wrong => Tfdt::Wrong,
     }
 }
 
-// The `tfdt` at a place: 16 (version 0) or 20 (version 1).
-fn read_tfdt(m: &[u8], at: usize) -> Start
-    requires { ⌜ at ≤ 17179869184 ⌝ }
-    ensures { λ r. ⌜ saysStart r (now (m .entry)) at ⌝ }
+// A `trun`: version 0 or 1, sized by its flags and its samples.
+pub fn read_trun(m: &[u8], r: Spot) -> Trun
+    requires { ⌜ Stands (now m) r ⌝ }
+    ensures { λ a. ⌜ saysTrun a (now (m .entry)) r ⌝ }
 {
-    let f = fields::full_at(m, at);
-    let p = at + f.head + 4;
-    if f.version == 0 {
-        if f.size == 16 {
-            return Start::At(numbers::be4(m, p) as u64);
-        }
-        return Start::Wrong;
+    if r.size - r.head < 8 {
+        return Trun::Wrong;
     }
-    if f.version == 1 {
-        if f.size == 20 {
-            return Start::At(numbers::be8(m, p));
-        }
+    let flags = fields::flags(m, r);
+    let count = fields::word(m, r, 4);
+    let own = layout::stride(flags) * count as usize;
+    let size = 8 + layout::run_head(flags) + own;
+    let version = fields::versioned(m, r, size, size);
+    match version {
+        Version::Zero => Trun::Run { flags, count },
+        Version::One => Trun::Run { flags, count },
+        Version::Wrong => Trun::Wrong,
     }
-    Start::Wrong
-}
-
-// Rule 15: `mfhd`, `tfhd`, `tfdt`, then the runs, with the `trex` defaults.
-pub fn read_bodies(m: &[u8], base: u64, x: Moof, d: Defaults) -> Bodies
-    requires { ⌜ (length (now m) ≤ 4294967296) × (base ≤ 4294967296) ⌝ }
-    requires { ⌜ Stand (now m) x × Surveys base (now m) (runsIn (now m)) (x .runs) ⌝ }
-    ensures { λ r. ⌜ saysBodies r base (now (m .entry)) d ⌝ }
-{
-    let mfhd = read_mfhd(m, x.mfhd);
-    let Mfhd::Plain = mfhd else {
-        return Bodies::Refused(base + x.mfhd as u64);
-    };
-    let tfhd = read_tfhd(m, x.tfhd, d);
-    let Tfhd::Of { flags, id, own } = tfhd else {
-        return Bodies::Refused(base + x.tfhd as u64);
-    };
-    let tfdt = read_tfdt(m, x.tfdt);
-    let Start::At(start) = tfdt else {
-        return Bodies::Refused(base + x.tfdt as u64);
-    };
-    let runs = x.runs;
-    let missized = runs.missized;
-    if missized != 0 {
-        return Bodies::Refused(missized);
-    }
-    Bodies::Known(Body {
-        flags,
-        id,
-        start,
-        own,
-    })
 }

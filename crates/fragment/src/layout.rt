@@ -1,9 +1,12 @@
 // Where the fields of a fragment's boxes stand, by the flags of each.
 ghost use mathlib.Core.Path.{_≡_};
 ghost use Prim.Native.Nat.{_+_, _<_, _≤_};
-ghost use Rattle.numbers.specs.Numbers.{be4, when};
-ghost use Rattle.rules.specs.Fragment.{bytesFor, tfhdSize, runHead, stride};
-ghost use Rattle.fragment.specs.Layout.{defaultsFrom, defaultsBehind};
+ghost use Rattle.numbers.specs.Numbers.{when};
+ghost use Rattle.rules.specs.Fields.{flagsOf, field};
+ghost use Rattle.rules.specs.Fragment.{bytesFor, tfhdSize, runHead, stride, tfhdIn, defaultsIn};
+ghost use Rattle.boxes.specs.Stands.{Stands};
+ghost use Rattle.fragment.specs.Layout.{StandsAt, Reaches};
+use boxes::Spot;
 use rules::Defaults;
 
 // n bytes where a flag is set.
@@ -16,11 +19,11 @@ pub fn bytes_for(n: usize, flags: u32, w: u32) -> usize
 }
 
 // The size of `tfhd` by its flags.
-pub fn tfhd_size(flags: u32) -> u64
+pub fn tfhd_size(flags: u32) -> usize
     ensures { λ r. ⌜ r ≡ tfhdSize flags ⌝ }
 {
     let five = bytes_for(4, flags, 0x8) + bytes_for(4, flags, 0x10) + bytes_for(4, flags, 0x20);
-    (16 + bytes_for(8, flags, 0x1) + bytes_for(4, flags, 0x2) + five) as u64
+    16 + bytes_for(8, flags, 0x1) + bytes_for(4, flags, 0x2) + five
 }
 
 // The bytes of a run before its samples' fields.
@@ -40,32 +43,26 @@ pub fn stride(flags: u32) -> usize
     first + bytes_for(4, flags, 0x400) + bytes_for(4, flags, 0x800)
 }
 
-// Where the defaults begin in a `tfhd`.
-fn defaults_from(flags: u32) -> usize
-    ensures { λ r. ⌜ r ≡ defaultsFrom flags ⌝ }
-    ensures { λ r. ⌜ r ≤ 20 ⌝ }
+// The field k bytes behind a box's header where a flag is set, else the default.
+fn own(m: &[u8], b: Spot, k: usize, set: bool, default: u32) -> u32
+    requires { ⌜ Stands (now m) b × Reaches set b k ⌝ }
+    ensures { λ r. ⌜ r ≡ when set (field (now (m .entry)) (b .at) k) default ⌝ }
 {
-    8 + bytes_for(8, flags, 0x1) + bytes_for(4, flags, 0x2)
+    if set { fields::word(m, b, k) } else { default }
 }
 
-// The number in the four bytes at a place where a flag is set, else the default.
-fn own(m: &[u8], p: usize, set: bool, default: u32) -> u32
-    ensures { λ r. ⌜ r ≡ when set (be4 (now (m .entry)) p) default ⌝ }
+// The defaults of the `tfhd`, which is sized by these flags, else those of `trex`.
+pub fn defaults(m: &[u8], b: Spot, flags: u32, d: Defaults) -> Defaults
+    requires { ⌜ StandsAt (now m) (tfhdIn (now m)) b ⌝ }
+    requires { ⌜ (flags ≡ flagsOf (now m) (b .at)) × (b .size + 8 ≡ b .head + tfhdSize flags) ⌝ }
+    ensures { λ r. ⌜ r ≡ defaultsIn (now (m .entry)) d ⌝ }
 {
-    if set { numbers::be4(m, p) } else { default }
-}
-
-// The defaults of a `tfhd` with these flags whose header ends at a place, else those of `trex`.
-pub fn defaults_behind(m: &[u8], p: usize, flags: u32, d: Defaults) -> Defaults
-    requires { ⌜ p ≤ 34359738368 ⌝ }
-    ensures { λ r. ⌜ r ≡ defaultsBehind (now (m .entry)) p flags d ⌝ }
-{
-    let duration = defaults_from(flags);
+    let duration = 8 + bytes_for(8, flags, 0x1) + bytes_for(4, flags, 0x2);
     let size = duration + bytes_for(4, flags, 0x8);
     let sync = size + bytes_for(4, flags, 0x10);
     Defaults {
-        duration: own(m, p + duration, numbers::has(flags, 0x8), d.duration),
-        size: own(m, p + size, numbers::has(flags, 0x10), d.size),
-        flags: own(m, p + sync, numbers::has(flags, 0x20), d.flags),
+        duration: own(m, b, duration, numbers::has(flags, 0x8), d.duration),
+        size: own(m, b, size, numbers::has(flags, 0x10), d.size),
+        flags: own(m, b, sync, numbers::has(flags, 0x20), d.flags),
     }
 }

@@ -2,6 +2,7 @@
 ghost use mathlib.Core.Path.{_≡_};
 ghost use Prim.Native.Nat.{_+_, _*_, _≤_};
 ghost use lib.ListN.{length};
+ghost use Rattle.rules.specs.Limits.{sampleLimit};
 ghost use Rattle.rules.specs.Fragment.{stride};
 ghost use Rattle.fragment.specs.Samples.{every, ownTicks, ownBytes, Summed};
 use rules::Defaults;
@@ -14,7 +15,7 @@ pub struct Sums {
 
 // The sum of n numbers, a step apart from a place, all inside the slice.
 fn sum_inside(m: &[u8], from: usize, step: usize, n: usize) -> u64
-    requires { ⌜ (n ≤ 65536) × (4 ≤ step) × (from + step * n ≤ length (now m)) ⌝ }
+    requires { ⌜ (n ≤ sampleLimit) × (4 ≤ step) × (from + step * n ≤ length (now m)) ⌝ }
     ensures { λ r. ⌜ Summed (every (now (m .entry)) from step) n r ⌝ }
 {
     let mut sum: u64 = 0;
@@ -30,7 +31,7 @@ fn sum_inside(m: &[u8], from: usize, step: usize, n: usize) -> u64
 
 // The two sums of n pairs of numbers, a step apart from a place, all inside the slice.
 fn pairs_inside(m: &[u8], from: usize, step: usize, n: usize) -> Sums
-    requires { ⌜ (n ≤ 65536) × (8 ≤ step) × (from + step * n ≤ length (now m)) ⌝ }
+    requires { ⌜ (n ≤ sampleLimit) × (8 ≤ step) × (from + step * n ≤ length (now m)) ⌝ }
     ensures { λ r. ⌜ Summed (every (now (m .entry)) from step) n (r .ticks) ⌝ }
     ensures { λ r. ⌜ Summed (every (now (m .entry)) (from + 4) step) n (r .bytes) ⌝ }
 {
@@ -49,7 +50,7 @@ fn pairs_inside(m: &[u8], from: usize, step: usize, n: usize) -> Sums
 
 // A value that n samples share, n times.
 fn times(n: usize, x: u32) -> u64
-    requires { ⌜ n ≤ 65536 ⌝ }
+    requires { ⌜ n ≤ sampleLimit ⌝ }
     ensures { λ r. ⌜ Summed (λ i. x) n r ⌝ }
 {
     n as u64 * x as u64
@@ -57,7 +58,7 @@ fn times(n: usize, x: u32) -> u64
 
 // The durations and the sizes of n samples whose fields stand a step apart from a place, all inside the slice.
 pub fn sums_of(m: &[u8], from: usize, step: usize, n: usize, flags: u32, d: Defaults) -> Sums
-    requires { ⌜ (n ≤ 65536) × (step ≡ stride flags) × (from + step * n ≤ length (now m)) ⌝ }
+    requires { ⌜ (n ≤ sampleLimit) × (step ≡ stride flags) × (from + step * n ≤ length (now m)) ⌝ }
     ensures { λ r. ⌜ Summed (ownTicks (now (m .entry)) from step flags (d .duration)) n (r .ticks) ⌝ }
     ensures { λ r. ⌜ Summed (ownBytes (now (m .entry)) from step flags (d .size)) n (r .bytes) ⌝ }
 {

@@ -47,7 +47,7 @@ rows-length (bad k p) base n d m e = by (leb boxLimit n) e
 rows-length (node x i r) base n d m e = by (leb boxLimit n) (framing i inner (n + 1)) refl e (rows-length i inner (n + 1) (d + 1)) (λ k. rows-length r base k d m)
   where
     inner : ℕ
-    inner = base + x .at + x .head
+    inner = base + x .at + x .inner
 
     by :
         (b : Bool) (f : Framing) → framing i inner (n + 1) ≡ f →

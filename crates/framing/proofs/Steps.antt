@@ -11,9 +11,9 @@ use lib.Dec.{leb, ltb, eqb}
 use borrow.Author.Tests.{eqb-true, le-leb, lt-leb}
 use Rattle.numbers.specs.Numbers.{be4, be8, when}
 use Rattle.rules.specs.Limits.{boxLimit}
-use Rattle.rules.specs.Boxes.{part, sized, lookAt, look, inside, within, forest, Forest, end, bad, node}
+use Rattle.rules.specs.Boxes.{part, sized, lookAt, look, inside, within, forest, boxes, Forest, end, bad, node}
 use Rattle.rules.specs.Framing.{rule5, framing, onFraming}
-use Rattle.rules.proofs.Forest.{look-nothing, look-found, Found, forest-by, forest-nothing, forest-short, forest-small, forest-beyond, forest-box}
+use Rattle.rules.proofs.Forest.{look-nothing, look-found, Found, forest-by, forest-nothing, forest-short, forest-small, forest-beyond, forest-box, boxes-nothing}
 use Rattle.rules.proofs.Look.{the-type}
 use Rattle.rules.specs.declared.Path.{Path}
 use Rattle.rules.specs.declared.Inside.{Inside}
@@ -72,7 +72,7 @@ body-length {s} {at} {h} {z} f = simp (length-take, length-drop) (omega (arith, 
 
 -- a box of a run, what is inside it and what follows it
 abbrev pub boxAt : Path → List ℕ → ℕ → ℕ → ℕ → ℕ → Forest → Forest
-boxAt path s at h z k i = node (record { at = at; head = h; size = z; kind = k }) i (forest path s (at + z))
+boxAt path s at h z k i = node (record { at = at; inner = h; size = z; kind = k }) i (forest path s (at + z))
 
 -- the forest where a header and its type were read: of a leaf, and of a container
 module _ (path : Path) (s : List ℕ) (at : ℕ) {h z k : ℕ} {l : Look} {i : Inside} (e : l ≡ look s at) (g : l ≡ Header h z k) (w : i ≡ inside path k) where
@@ -95,9 +95,12 @@ known s at path base n e h = subst (λ (x : Step). Read x s at path base n) e h
 
 module _ (path : Path) (s : List ℕ) (at base n : ℕ) where
   -- no byte is left
-  pub at-end : length s ≤ at → framing (forest path s at) base n ≡ Framed n
+  none : look s at ≡ Nothing → (framing (forest path s at) base n ≡ Framed n) × (boxes s at ≡ [])
   unfolding framing
-  at-end h = ap (λ f. framing f base n) (forest-nothing path s at (look-nothing s at h))
+  none e = (ap (λ f. framing f base n) (forest-nothing path s at e), boxes-nothing s at e)
+
+  pub at-end : length s ≤ at → (framing (forest path s at) base n ≡ Framed n) × (boxes s at ≡ [])
+  at-end h = none (look-nothing s at h)
 
   -- 5 is tried first where bytes remain
   pub at-limit : at < length s → boxLimit ≤ n → framing (forest path s at) base n ≡ Misframed 5 (base + at)
@@ -140,7 +143,7 @@ module _ (path : Path) (s : List ℕ) (at base n : ℕ) where
   reads-broken l r e o h b = subst⁻¹ (λ (x : Step). Read x s at path base n) b (by l e o)
     where
       by : (l : Look) → look s at ≡ l → OneOf (0 ∷ 1 ∷ 2 ∷ 3 ∷ []) (tagOf the-type l) → Read (brokenAt l (base + at)) s at path base n
-      by Nothing e o = ap (λ f. framing f base n) (forest-nothing path s at e)
+      by Nothing e o = none e
       by Short e o = at-bad 2 h (forest-short path s at e)
       by Small e o = at-bad 3 h (forest-small path s at e)
       by Beyond e o = at-bad 4 h (forest-beyond path s at e)
@@ -148,14 +151,14 @@ module _ (path : Path) (s : List ℕ) (at base n : ℕ) where
 
   module _ {l : Look} {h z k : ℕ} {i : Inside} (b : n < boxLimit) (e : l ≡ look s at) (g : l ≡ Header h z k) (w : i ≡ inside path k) where
     -- past a leaf
-    pub reads-leaf : i ≡ Leaf → Read (Past (at + z) (n + 1)) s at path base n
+    pub reads-leaf : i ≡ Leaf → Read (Past h z k (n + 1)) s at path base n
     unfolding framing
-    reads-leaf m = (at-box h z k end b (leaf path s at e g w m), omega (arith, told e g), omega (arith, told e g))
+    reads-leaf m = (at-box h z k end b (leaf path s at e g w m), sym e ∙ g)
 
     -- past a container
     pub reads-container :
         {q : Path} (f : Framing) (r : Step) → i ≡ Holds q → f ≡ framing (forest q (bodyAt s at h z) 0) (base + at + h) (n + 1) →
-        r ≡ passedTo f (at + z) → Read r s at path base n
+        r ≡ passedTo f h z k → Read r s at path base n
     reads-container {q} f r m a c = subst⁻¹ (λ (x : Step). Read x s at path base n) c (by f a)
       where
         inner : Forest
@@ -167,6 +170,6 @@ module _ (path : Path) (s : List ℕ) (at base n : ℕ) where
         box : {x : Framing} → x ≡ framing inner (base + at + h) (n + 1) → framing (forest path s at) base n ≡ after x
         box a = at-box h z k inner b (container path s at e g w m) ∙ ap after (sym a)
 
-        by : (f : Framing) → f ≡ framing inner (base + at + h) (n + 1) → Read (passedTo f (at + z)) s at path base n
-        by (Framed m) a = (box a, omega (arith, told e g), omega (arith, told e g))
+        by : (f : Framing) → f ≡ framing inner (base + at + h) (n + 1) → Read (passedTo f h z k) s at path base n
+        by (Framed m) a = (box a, sym e ∙ g)
         by (Misframed k p) a = box a

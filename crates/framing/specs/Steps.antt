@@ -4,7 +4,7 @@ use mathlib.Core.List.{List, []}
 use mathlib.Core.Path.{_≡_}
 use lib.ListN.{length}
 use lib.Seq.{sets}
-use Rattle.rules.specs.Boxes.{forest}
+use Rattle.rules.specs.Boxes.{look, forest, boxes}
 use Rattle.rules.specs.Framing.{framing, rows}
 use Rattle.rules.specs.declared.Path.{Path}
 use Rattle.rules.specs.declared.Look.{Look}
@@ -29,16 +29,16 @@ brokenAt Beyond p = Refused 4 p
 brokenAt (Header h z k) p = End
 
 -- the step past a container, by how its run is framed
-abbrev pub passedTo : Framing → ℕ → Step
-passedTo (Framed m) next = Past next m
-passedTo (Misframed k p) next = Refused k p
+abbrev pub passedTo : Framing → ℕ → ℕ → ℕ → Step
+passedTo (Framed m) h z k = Past h z k m
+passedTo (Misframed n p) h z k = Refused n p
 
 -- what a step at a place says of the framing of the run from there on, with n boxes before it:
--- past a box, it is the framing from the next place on; at the end, the boxes so far; else the refusal
+-- past a box, it is the framing from behind it on; at the end, where there is no box, the boxes so far; else the refusal
 abbrev pub Read : Step → List ℕ → ℕ → Path → ℕ → ℕ → Type 0
-Read (Past next m) s at path base n =
-    (framing (forest path s at) base n ≡ framing (forest path s next) base m) × (at < next) × (next ≤ length s)
-Read End s at path base n = framing (forest path s at) base n ≡ Framed n
+Read (Past h z k m) s at path base n =
+    (framing (forest path s at) base n ≡ framing (forest path s (at + z)) base m) × (look s at ≡ Header h z k)
+Read End s at path base n = (framing (forest path s at) base n ≡ Framed n) × (boxes s at ≡ [])
 Read (Refused k p) s at path base n = framing (forest path s at) base n ≡ Misframed k p
 
 -- what writing one box says of the table, t before and u after, where the index of the run from the place on fits from a row on:

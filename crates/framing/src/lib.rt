@@ -21,11 +21,19 @@ pub const BYTE_LIMIT: usize = 1073741824;
 // Rule 5: the boxes of a slice.
 const BOX_LIMIT: usize = 4096;
 
-// What reading one box comes to: past it, with the next place and the boxes so far; no byte left; or a refusal.
-enum Step {
-    Past { next: usize, boxes: usize },
+// What reading one box comes to: past it, with what its header tells and the boxes so far; no byte left; or a refusal.
+pub enum Step {
+    Past {
+        head: usize,
+        size: usize,
+        kind: u32,
+        boxes: usize,
+    },
     End,
-    Refused { number: u64, place: usize },
+    Refused {
+        number: u64,
+        place: usize,
+    },
 }
 
 // The step where no box is framed.
@@ -46,17 +54,22 @@ fn broken(l: Look, place: usize) -> Step
 }
 
 // The step past a container, by how its run is framed.
-fn passed(inner: Framing, next: usize) -> Step
-    ensures { λ r. ⌜ r ≡ passedTo inner next ⌝ }
+fn passed(inner: Framing, head: usize, size: usize, kind: u32) -> Step
+    ensures { λ r. ⌜ r ≡ passedTo inner head size kind ⌝ }
 {
     match inner {
-        Framing::Framed(boxes) => Step::Past { next, boxes },
+        Framing::Framed(boxes) => Step::Past {
+            head,
+            size,
+            kind,
+            boxes,
+        },
         Framing::Misframed { number, place } => Step::Refused { number, place },
     }
 }
 
 // Reads the box at a place of a run whose slice starts at a base, with n boxes before it, and what is inside it.
-fn read_box(s: &[u8], at: usize, path: Path, base: usize, n: usize) -> Step
+pub fn read_box(s: &[u8], at: usize, path: Path, base: usize, n: usize) -> Step
     requires { ⌜ Placed base (now s) ⌝ }
     ensures { λ r. ⌜ Read r (now (s .entry)) at path base n ⌝ }
 {
@@ -73,10 +86,16 @@ fn read_box(s: &[u8], at: usize, path: Path, base: usize, n: usize) -> Step
     };
     let next = at + size;
     let Inside::Holds(inner) = boxes::inside(path, kind) else {
-        return Step::Past { next, boxes: n + 1 };
+        return Step::Past {
+            head,
+            size,
+            kind,
+            boxes: n + 1,
+        };
     };
     let from = at + head;
-    passed(read_run(&s[from..next], inner, place + head, n + 1), next)
+    let framed = read_run(&s[from..next], inner, place + head, n + 1);
+    passed(framed, head, size, kind)
 }
 
 // Reads a run of boxes, from the start of a slice that starts at a base to its end, with n boxes before it.
@@ -88,8 +107,8 @@ pub fn read_run(s: &[u8], path: Path, base: usize, n: usize) -> Framing
     let mut count = n;
     loop {
         match read_box(s, at, path, base, count) {
-            Step::Past { next, boxes } => {
-                at = next;
+            Step::Past { size, boxes, .. } => {
+                at += size;
                 count = boxes;
             }
             Step::End => {

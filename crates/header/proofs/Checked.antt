@@ -1,66 +1,84 @@
--- Laws of rules 7 to 13 as a whole: what rule 7 has told, past a rule that holds, and at one that breaks.
-use mathlib.Core.Path.{_≡_, sym, _∙_, ap}
-use Prim.Native.Nat.{ℕ, _≤_}
+-- Laws of rules 7 to 13 as a whole, wherever `moov` stands: at each that breaks, and where all hold.
+use mathlib.Core.Path.{_≡_, sym, ap, _∙_}
+use mathlib.Core.List.{List}
+use mathlib.Core.Bool.{Bool, true, false}
+use Prim.Native.Nat.{ℕ}
 use native.Mathlib.Omega.{arith}
-use Rattle.rules.specs.Rules.{_then_}
+use lib.ListN.{length}
+use Rattle.rules.specs.Rules.{_then_, must, moved}
+use Rattle.rules.specs.Header.{rule7, rule8ftyp, rule8, rule9, rulesOfValues, headerRules, headerBy}
+use Rattle.rules.specs.declared.Ftyp.{Ftyp}
+use Rattle.rules.specs.declared.Ftyp.the-variants.{Branded, Wrong}
+use Rattle.rules.specs.declared.Places.{Places}
 use Rattle.rules.specs.declared.Rule.{Rule}
 use Rattle.rules.specs.declared.Rule.the-variants.{Holds, Breaks}
-use Rattle.rules.specs.declared.Header.{Header}
-use Rattle.rules.specs.declared.Places.{Places}
-use Rattle.rules.proofs.Then.{then-breaks}
-use Rattle.header.specs.Within.{Within}
-use Rattle.header.specs.declared.Counted.{Counted}
+use Rattle.header.specs.Places.{Judges, placesBy, LocatedIn}
+use Rattle.header.specs.Bodies.{ValuesIn, BodiesAs}
+use Rattle.header.specs.Answers.{HeadsAs, headsUpTo}
+use Rattle.header.specs.declared.HeaderFacts.{HeaderFacts}
 use Rattle.header.specs.declared.Headed.{Headed}
-use Rattle.header.specs.declared.Facts.{Facts}
-use Rattle.header.specs.Counts.{CountsAs}
-use Rattle.header.specs.Heads.{HeadsAs, headsWithin, handed, refused}
-use Rattle.header.proofs.Own.{Own, own-track}
-
--- what rule 7 has told
-module _ {c : Counted} (rule : Rule) (q : Places) (n : ℕ) (h : CountsAs c rule q n) where
-  pub told : {p : Places} → c ≡ Counted.Found p → (rule ≡ Holds) × (p ≡ q) × Within p n
-  unfolding CountsAs
-  told e = rw e at h
-
-  pub broken : {number place : ℕ} → c ≡ Counted.Refused number place → rule ≡ Breaks number 0 place
-  unfolding CountsAs
-  broken e = rw e at h
-
--- a larger bound
-pub within-more : {p : Places} {i n : ℕ} → Within p i → i ≤ n → Within p n
-within-more w h =
-    record {
-      mvhd = omega arith;
-      tkhd = omega arith;
-      mdhd = omega arith;
-      hdlr = omega arith;
-      media = omega arith;
-      stsd = omega arith;
-      stts = omega arith;
-      stsc = omega arith;
-      stsz = omega arith;
-      stco = omega arith;
-      trex = omega arith;
-    }
+use Rattle.header.specs.declared.containers.Located.{Located}
+use Rattle.header.specs.declared.bodies.Bodies.{Bodies}
+use Rattle.header.specs.declared.bodies.Values.{Values}
+use Rattle.header.proofs.Own.{fair, fair-broken, own7, fair8, fair-values}
 
 -- what an answer says, with its bounds
-abbrev pub Says : Headed → Rule → Header → Places → ℕ → Type 0
-Says c rule h p n = HeadsAs c rule h p × headsWithin c n
+abbrev pub Says : Headed → Ftyp → List ℕ → Type 0
+Says r f m = HeadsAs r f m × headsUpTo r (length m)
 
--- a refusal of rule 7
-pub first-broken :
-    {c : Headed} {k : Counted} {number place : ℕ} {x : Rule} (q : Rule) (h : Header) (p : Places) (n : ℕ) →
-    c ≡ handed k → k ≡ Counted.Refused number place → x ≡ Breaks number 0 place → Says c (x then q) h p n
-first-broken q h p n e f b = rw (e, f) (then-breaks q b, tt)
+module _ (m : List ℕ) where
+  -- rule 7 breaks
+  pub seven-breaks : (f : Ftyp) {n t p : ℕ} {r : Rule} → Judges m (rule7 m) r → r ≡ Breaks n t p → Says (Headed.Moov n p) f m
+  unfolding headerRules moved _then_
+  seven-breaks f {r = r} j e =
+      let b = fair-broken (length m) (fair (length m) (rule7 m) (own7 m) (rw (j .is) at (j .low))) (sym (j .is) ∙ e) in
+      (λ base. rw (b .0), b .1)
 
--- a refusal of any rule after it
-pub next-broken :
-    {c : Headed} {r x : Rule} {i t a : ℕ} (h : Header) (p : Places) (n : ℕ) → c ≡ refused r → Own x → r ≡ x → r ≡ Breaks i t a →
-    Says c x h p n
-next-broken h p n e o f b = rw (e, b) (own-track o (sym f ∙ b), tt)
+  module _ (seven : rule7 m ≡ Holds) where
+    -- the body of `ftyp` is wrong
+    pub ftyp-wrong : Says (Headed.Ftyp 8) Wrong m
+    unfolding headerRules moved _then_ rule8ftyp
+    ftyp-wrong = (λ base. rw seven, tt)
 
--- a good header
-pub good : {x : Facts} {h : Header} {p q : Places} {n : ℕ} {r : Rule} →
-    r ≡ Holds → x .header ≡ h → x .mdhd ≡ p .mdhd → x .hdlr ≡ p .hdlr → p ≡ q → Within p n → Says (Headed.Good x) r h q n
-good {q = q} {n = n} r a b d e w =
-    ((r, a, b ∙ ap (λ (s : Places). s .mdhd) e, d ∙ ap (λ (s : Places). s .hdlr) e), (omega arith, omega arith))
+    module _ (s : Located) (h : LocatedIn m s) where
+      -- what rule 8 has told
+      pub read : {r : Bodies} {v : Values} → BodiesAs r m s → r ≡ Bodies.Read v → ValuesIn m s v × (rule8 m (placesBy s) ≡ Holds)
+      read k e = rw e at k
+
+      -- it breaks in `moov`
+      pub eight-breaks : (b : Bool) {r : Bodies} {at : ℕ} → BodiesAs r m s → r ≡ Bodies.Wrong at → Says (Headed.Moov 8 at) (Branded b) m
+      unfolding headerRules moved _then_ rule8ftyp
+      eight-breaks b {at = at} k e =
+          let w : rule8 m (placesBy s) ≡ Breaks 8 0 at = rw e at k in
+          (λ base. rw (seven, ← h .places, w), fair-broken (length m) (fair8 h) w .1)
+
+      module _ (eight : rule8 m (placesBy s) ≡ Holds) where
+        -- no brand
+        pub nine-breaks : {b : Bool} → b ≡ false → Says (Headed.Ftyp 9) (Branded b) m
+        unfolding headerRules moved _then_ rule8ftyp rule9 must
+        nine-breaks e = (λ base. rw (seven, ← h .places, eight, e), tt)
+
+        -- one of rules 10 to 13
+        pub values-break : {b : Bool} {r : Rule} {n t p : ℕ} → b ≡ true → r ≡ rulesOfValues m (placesBy s) → r ≡ Breaks n t p
+            → Says (Headed.Moov n p) (Branded b) m
+        unfolding headerRules moved _then_ rule8ftyp rule9 must
+        values-break e k q =
+            let w = fair-broken (length m) (fair-values h) (sym k ∙ q) in
+            (λ base. rw (seven, ← h .places, eight, e, w .0), w .1)
+
+        -- all hold
+        pub all-hold : {b : Bool} {r : Rule} {x : HeaderFacts} → b ≡ true → r ≡ rulesOfValues m (placesBy s) → r ≡ Holds
+            → x .header ≡ headerBy m (placesBy s) → x .mdhd ≡ s .trak .mdhd .at → x .hdlr ≡ s .trak .hdlr .at → Says (Headed.Good x) (Branded b) m
+        unfolding headerRules moved _then_ rule8ftyp rule9 must
+        all-hold e k q a i j =
+            let w : rulesOfValues m (placesBy s) ≡ Holds = sym k ∙ q in (
+              (
+                record {
+                  header = a ∙ ap (headerBy m) (h .places);
+                  mdhd = i ∙ ap (λ (p : Places). p .mdhd) (h .places);
+                  hdlr = j ∙ ap (λ (p : Places). p .hdlr) (h .places);
+                },
+                λ base. rw (seven, ← h .places, eight, e, w),
+              ),
+              (omega (arith, i, h .trak .mdhd .stands .fits), omega (arith, j, h .trak .hdlr .stands .fits)),
+            )

@@ -1,18 +1,20 @@
--- Laws of the compatible brands: one more that is none of the two, one that is, and those past the end.
+-- Laws of `ftyp`: its form by the bytes behind its header, and its compatible brands, one after the other.
 use mathlib.Core.Path.{_≡_, refl, sym, _∙_, ap}
 use mathlib.Core.List.{List}
 use mathlib.Core.Bool.{Bool, true, false, _||_}
-use Prim.Native.Nat.{ℕ, suc, _+_, _*_, _<_, _≤_}
+use Prim.Native.Nat.{ℕ, suc, _+_, _-_, _*_, _/_, _%_, _<_, _≤_}
 use native.Mathlib.Decide.{le-ind}
 use native.Mathlib.Numerals.{add-one}
 use native.Mathlib.Omega.{arith}
 use lib.ListN.{length}
 use lib.Dec.{eqb}
+use borrow.Author.Tests.{le-leb, lt-leb, eq-eqb, ne-eqb}
 use Rattle.numbers.specs.Numbers.{be4}
 use Rattle.rules.specs.Kinds.{cmfc, cmf2}
-use Rattle.rules.specs.Boxes.{headOf}
-use Rattle.rules.specs.Header.{field, branded}
-use Rattle.fields.proofs.Laws.{past4}
+use Rattle.rules.specs.Fields.{shortSize, field, hasForm}
+use Rattle.rules.specs.Header.{branded, brands, ftypIn}
+use Rattle.rules.specs.declared.Ftyp.the-variants.{Branded, Wrong}
+use Rattle.boxes.specs.Stands.{Whole}
 
 -- whether a number is one of the two brands
 abbrev pub isBrand : ℕ → Bool
@@ -31,41 +33,52 @@ or-left : (a b d : Bool) → a ≡ true → (a || b || d) ≡ true
 or-left true b d q = refl
 or-left false b d q = cc
 
--- brand i stands at a place
-at-brand : (f : List ℕ) (h i at : ℕ) → h ≡ headOf f 0 → at ≡ h + 8 + 4 * i → be4 f at ≡ field f 0 (8 + 4 * i)
-unfolding field
-at-brand f h i at e k = ap (be4 f) (omega arith)
-
-module _ (f : List ℕ) where
-  -- one more brand
-  pub branded-miss : (i : ℕ) → branded f i ≡ false → isBrand (field f 0 (8 + 4 * i)) ≡ false → branded f (suc i) ≡ false
-  unfolding branded
-  branded-miss i e h = or-false (branded f i) (eqb (field f 0 (8 + 4 * i)) cmfc) (eqb (field f 0 (8 + 4 * i)) cmf2) e h
-
-  pub branded-hit : (i : ℕ) → isBrand (field f 0 (8 + 4 * i)) ≡ true → branded f (suc i) ≡ true
-  unfolding branded
-  branded-hit i h = or-right (branded f i) (eqb (field f 0 (8 + 4 * i)) cmfc) (eqb (field f 0 (8 + 4 * i)) cmf2) h
-
-  -- a brand among the first is among more
-  pub branded-more : (i n : ℕ) → branded f i ≡ true → i ≤ n → branded f n ≡ true
-  unfolding branded
-  branded-more i n e = le-ind (λ (k : ℕ). branded f k ≡ true) e (λ k h b. or-left (branded f k) (eqb (field f 0 (8 + 4 * k)) cmfc) (eqb (field f 0 (8 + 4 * k)) cmf2) b) n
-
-  -- past the end no brand is one of the two
-  pub branded-past : (i n : ℕ) → branded f i ≡ false → length f ≤ headOf f 0 + 8 + 4 * i → i ≤ n → branded f n ≡ false
+module _ (f : List ℕ) (h : ℕ) (w : Whole f h) where
+  -- one more brand, at its place
+  same : (i : ℕ) {x : ℕ} → x ≡ be4 f (h + 8 + 4 * i) → field f 0 (8 + 4 * i) ≡ x
   unfolding field
-  branded-past i n e p = le-ind (λ (k : ℕ). branded f k ≡ false) e (λ k h b. branded-miss k b (none k (omega arith))) n
-    where
-      none : (k : ℕ) → i ≤ k → isBrand (field f 0 (8 + 4 * k)) ≡ false
-      none k h = ap isBrand (past4 f (0 + headOf f 0 + (8 + 4 * k)) (omega arith))
+  same i e = ap (be4 f) (omega (arith, w .head)) ∙ sym e
 
-  -- a step of the search: the brand at a place is none of the two, or one of them
-  module _ (i at : ℕ) (b : Bool) (place : at ≡ headOf f 0 + 8 + 4 * i) (test : b ≡ isBrand (be4 f at)) where
-    same : isBrand (field f 0 (8 + 4 * i)) ≡ b
-    same = ap isBrand (sym (at-brand f (headOf f 0) i at refl place)) ∙ sym test
+  pub none-yet : branded f 0 ≡ false
+  unfolding branded
+  none-yet = refl
 
-    pub branded-next : branded f i ≡ false → b ≡ false → branded f (i + 1) ≡ false
-    branded-next e h = rw add-one (branded-miss i e (same ∙ h))
+  pub none-more : (i : ℕ) {x : ℕ} {b : Bool} → x ≡ be4 f (h + 8 + 4 * i) → b ≡ isBrand x → b ≡ false → branded f i ≡ false → branded f (i + 1) ≡ false
+  unfolding branded
+  none-more i e t n p = rw (add-one, same i e) (or-false _ _ _ p (sym t ∙ n))
 
-    pub branded-found : (n : ℕ) → i < n → b ≡ true → true ≡ branded f n
-    branded-found n l h = sym (branded-more (suc i) n (branded-hit i (same ∙ h)) l)
+  more : (i n : ℕ) → branded f i ≡ true → i ≤ n → branded f n ≡ true
+  unfolding branded
+  more i n e = le-ind (λ (k : ℕ). branded f k ≡ true) e (λ k l b. or-left (branded f k) _ _ b) n
+
+  one-more : (i : ℕ) {x : ℕ} {b : Bool} → x ≡ be4 f (h + 8 + 4 * i) → b ≡ isBrand x → b ≡ true → branded f (suc i) ≡ true
+  unfolding branded
+  one-more i e t y = rw (same i e) (or-right (branded f i) _ _ (sym t ∙ y))
+
+  -- the size with the short header, by the bytes behind the header
+  short : shortSize f 0 ≡ length f - h + 8
+  unfolding shortSize
+  short = rw (w .head, w .size)
+
+  -- the forms that are wrong
+  pub too-small : length f - h < 8 → Wrong ≡ ftypIn f
+  unfolding ftypIn hasForm
+  too-small l = rw (lt-leb 16 (shortSize f 0) (omega (arith, short)))
+
+  pub no-fours : ((length f - h - 8) % 4 ≡ 0 → ⊥) → 8 ≤ length f - h → Wrong ≡ ftypIn f
+  unfolding ftypIn hasForm
+  no-fours n l =
+      rw (le-leb 16 (shortSize f 0) (omega (arith, short)), ne-eqb ((shortSize f 0 - 16) % 4) 0 (λ e. n (ap (λ (k : ℕ). k % 4) (omega (arith, short)) ∙ e)))
+
+  -- the right form, with or without one of the two
+  module _ (l : 8 ≤ length f - h) (r : (length f - h - 8) % 4 ≡ 0) where
+    formed : ftypIn f ≡ Branded (branded f ((length f - h - 8) / 4))
+    unfolding ftypIn hasForm brands
+    formed =
+        rw (le-leb 16 (shortSize f 0) (omega (arith, short)), eq-eqb ((shortSize f 0 - 16) % 4) 0 (ap (λ (k : ℕ). k % 4) (omega (arith, short)) ∙ r), w .head, w .size)
+
+    pub found : (i : ℕ) {x : ℕ} {b : Bool} → x ≡ be4 f (h + 8 + 4 * i) → b ≡ isBrand x → b ≡ true → i < (length f - h - 8) / 4 → Branded true ≡ ftypIn f
+    found i e t y k = sym (formed ∙ ap Branded (more (suc i) _ (one-more i e t y) k))
+
+    pub found-none : (i : ℕ) → branded f i ≡ false → i ≡ (length f - h - 8) / 4 → Branded false ≡ ftypIn f
+    found-none i p e = sym (formed ∙ ap Branded (ap (branded f) (sym e) ∙ p))

@@ -1,8 +1,9 @@
-pub mod Checked
+pub mod Spelt
 pub mod Compatible
-pub mod Composed
-pub mod InOrder
-pub mod Letters
+pub mod Read
+pub mod Eight
+pub mod Found
 pub mod Own
-pub mod Sights
-pub mod Walks
+pub mod Located
+pub mod Valued
+pub mod Checked

@@ -1,132 +1,117 @@
--- The header's rules break on track 0: each is a rule of one track, by itself.
+-- The header's rules break on track 0, each being a rule of one track by itself, and at a place of `moov`.
 use mathlib.Core.Path.{_≡_, refl, _∙_, ap, subst}
-use mathlib.Core.List.{List}
+use mathlib.Core.List.{List, [], _∷_}
 use mathlib.Core.Bool.{Bool, true, false}
-use Prim.Native.Nat.{ℕ}
-use Rattle.rules.specs.Rules.{_then_, must}
-use Rattle.rules.specs.Kinds.{edts, elst}
-use Rattle.rules.specs.Boxes.{kids, child, seen, onSeen}
-use Rattle.rules.specs.Header.{oneOf, atMostOneOf, one, atMostOne, rule7, rule7moov, rule7trak, rule7edts, rule7mdia, rule7minf, rule7dinf, rule7stbl, rule7mvex, rule8, rule9, rule10, rule11, rule12, rule13, rules7to13, placesIn}
+use Prim.Native.Nat.{ℕ, _≤_}
+use native.Mathlib.Omega.{arith}
+use lib.ListN.{length}
+use Rattle.rules.specs.Rules.{_then_, must, placedUpTo}
+use Rattle.rules.specs.Boxes.{kids}
+use Rattle.rules.specs.Fields.{body}
+use Rattle.rules.specs.Counts.{seen, oneOf, atMostOneOf, someOf, counted, counts, countsIf}
+use Rattle.rules.specs.Header.{rule7, rule8, rule10, rule11, rule12, rule13, rulesOfValues}
+use Rattle.rules.specs.declared.Entry.{Entry}
+use Rattle.rules.specs.declared.Entry.the-variants.{Nothing, One, AtMostOne, OneOrMore, OneInAll}
 use Rattle.rules.specs.declared.Rule.{Rule}
 use Rattle.rules.specs.declared.Rule.the-variants.{Holds, Breaks}
 use Rattle.rules.specs.declared.Seen.{Seen}
 use Rattle.rules.specs.declared.Seen.the-variants.{Never, Once, Twice}
-use Rattle.rules.specs.declared.Places.{Places}
-use Rattle.header.specs.Groups.{rules10to13}
+use Rattle.boxes.specs.Stands.{Stands}
+use Rattle.boxes.specs.declared.Spot.{Spot}
+use Rattle.header.specs.Places.{placesBy, LocatedIn}
+use Rattle.header.specs.declared.containers.Located.{Located}
+use Rattle.header.proofs.Found.{then-keeps}
 
 -- a rule that holds, or breaks on track 0
 abbrev pub Own : Rule → Type 0
 Own Holds = Unit {0}
 Own (Breaks n t p) = t ≡ 0
 
--- the track of a broken rule
-pub own-track : {r : Rule} {n t p : ℕ} → Own r → r ≡ Breaks n t p → r ≡ Breaks n 0 p
-own-track {n = n} {t = t} {p = p} o e = e ∙ ap (λ (k : ℕ). Breaks n k p) (subst Own e o)
+-- counts of entries
+counted-own : (n at : ℕ) (e : Entry) (v : Seen) → Own (counted n at e v)
+unfolding counted oneOf atMostOneOf someOf
+counted-own n at Nothing v = tt
+counted-own n at (One w) Never = refl
+counted-own n at (One w) (Once a) = tt
+counted-own n at (One w) (Twice a b) = refl
+counted-own n at (AtMostOne w) Never = tt
+counted-own n at (AtMostOne w) (Once a) = tt
+counted-own n at (AtMostOne w) (Twice a b) = refl
+counted-own n at (OneOrMore w) Never = refl
+counted-own n at (OneOrMore w) (Once a) = tt
+counted-own n at (OneOrMore w) (Twice a b) = tt
+counted-own n at (OneInAll u x w) Never = refl
+counted-own n at (OneInAll u x w) (Once a) = tt
+counted-own n at (OneInAll u x w) (Twice a b) = refl
 
-own-then : (r q : Rule) → Own r → Own q → Own (r then q)
-unfolding _then_
-own-then Holds q o k = k
-own-then (Breaks n t p) q o k = o
+module _ (n : ℕ) (m : List ℕ) where
+  counts-own : (at : ℕ) (es : List Entry) → Own (counts n m at es)
+  unfolding counts
+  counts-own at [] = tt
+  counts-own at (e ∷ es) = then-keeps Own _ _ (counted-own n at e (seen e (kids m at))) (counts-own at es)
 
-own-must : (b : Bool) (n p : ℕ) → Own (must b n p)
-unfolding must
-own-must true n p = tt
-own-must false n p = refl
-
-own-oneOf : (n c i : ℕ) (v : Seen) → Own (oneOf n c i v)
-unfolding oneOf
-own-oneOf n c i Never = refl
-own-oneOf n c i (Once a) = tt
-own-oneOf n c i (Twice a b) = refl
-
-own-atMostOneOf : (n i : ℕ) (v : Seen) → Own (atMostOneOf n i v)
-unfolding atMostOneOf
-own-atMostOneOf n i Never = tt
-own-atMostOneOf n i (Once a) = tt
-own-atMostOneOf n i (Twice a b) = refl
+  if-own : (v : Seen) (es : List Entry) → Own (countsIf n m v es)
+  unfolding countsIf
+  if-own Never es = tt
+  if-own (Once a) es = counts-own a es
+  if-own (Twice a b) es = counts-own a es
 
 -- rule 7
-module _ (base : ℕ) (m : List ℕ) where
-  pub own-one : (at w : ℕ) → Own (one 7 base m at w)
-  unfolding one
-  own-one at w = own-oneOf _ _ _ _
+pub own7 : (m : List ℕ) → Own (rule7 m)
+unfolding rule7
+own7 m =
+    after _ _ _
+    (after _ _ _
+    (then-keeps Own _ _ (if-own 7 m _ _) (after _ _ _ (after _ _ _ (after _ _ _ (after _ _ _ (counts-own 7 m _ _)))))))
+  where
+    after : (at : ℕ) (es : List Entry) (q : Rule) → Own q → Own (counts 7 m at es then q)
+    after at es q o = then-keeps Own _ q (counts-own 7 m at es) o
 
-  own-most : (at w : ℕ) → Own (atMostOne 7 base m at w)
-  unfolding atMostOne
-  own-most at w = own-atMostOneOf _ _ _
+-- a rule that holds, or breaks on track 0 at a place up to n
+abbrev pub Fair : ℕ → Rule → Type 0
+Fair n Holds = Unit {0}
+Fair n (Breaks k t p) = (t ≡ 0) × (p ≤ n)
 
-  pub own7moov : Own (rule7moov base m)
-  unfolding rule7moov
-  own7moov = own-then _ _ (own-one 0 _) (own-then _ _ (own-one 0 _) (own-one 0 _))
+pub fair : (n : ℕ) (r : Rule) → Own r → placedUpTo n r → Fair n r
+fair n Holds o l = tt
+fair n (Breaks k t p) o l = (o, l)
 
-  pub own7trak : (at : ℕ) → Own (rule7trak base m at)
-  unfolding rule7trak
-  own7trak at = own-then _ _ (own-one at _) (own-then _ _ (own-most at _) (own-one at _))
+-- the track and the place of a broken one
+pub fair-broken : (n : ℕ) {k t p : ℕ} {r : Rule} → Fair n r → r ≡ Breaks k t p → (r ≡ Breaks k 0 p) × (p ≤ n)
+fair-broken n {k} {t} {p} f e =
+    let g : Fair n (Breaks k t p) = subst (Fair n) e f in
+    (e ∙ ap (λ (i : ℕ). Breaks k i p) (g .0), g .1)
 
-  pub own7edts : (at : ℕ) → Own (rule7edts base m at)
-  unfolding rule7edts
-  own7edts at = by (seen edts (kids m at))
+-- a test at a box that stands in `moov`, and one before other rules
+module _ {m : List ℕ} {b : Spot} (st : Stands m b) (t : Bool) (k : ℕ) where
+  last : Fair (length m) (must t k (b .at))
+  unfolding must
+  last = by t
     where
-      by : (v : Seen) → Own (onSeen v Holds (λ a. one 7 base m (child m at edts) elst) (λ a b. one 7 base m (child m at edts) elst))
-      by Never = tt
-      by (Once a) = own-one (child m at edts) elst
-      by (Twice a b) = own-one (child m at edts) elst
+      by : (i : Bool) → Fair (length m) (must i k (b .at))
+      by true = tt
+      by false = (refl, omega (arith, st .fits))
 
-  pub own7mdia : (at : ℕ) → Own (rule7mdia base m at)
-  unfolding rule7mdia
-  own7mdia at = own-then _ _ (own-one at _) (own-then _ _ (own-one at _) (own-then _ _ (own-most at _) (own-one at _)))
+  next : (q : Rule) → Fair (length m) q → Fair (length m) (must t k (b .at) then q)
+  next q f = then-keeps (Fair (length m)) _ q last f
 
-  pub own7minf : (at : ℕ) → Own (rule7minf base m at)
-  unfolding rule7minf
-  own7minf at = own-then _ _ (own-one at _) (own-then _ _ (own-one at _) (own-one at _))
+module _ {m : List ℕ} {s : Located} (h : LocatedIn m s) where
+  -- rule 8
+  pub fair8 : Fair (length m) (rule8 m (placesBy s))
+  unfolding rule8 body
+  fair8 =
+      next (h .mvhd) _ _ _
+      (next (h .trak .tkhd .stands) _ _ _
+      (next (h .trak .mdhd .stands) _ _ _
+      (next (h .trak .hdlr .stands) _ _ _
+      (next (h .minf .stsd .stands) _ _ _
+      (next (h .minf .stts .stands) _ _ _ (next (h .minf .stsc .stands) _ _ _ (next (h .minf .stco .stands) _ _ _ (next (h .minf .stsz .stands) _ _ _ (last (h .trex) _ _)))))))))
 
-  pub own7dinf : (at : ℕ) → Own (rule7dinf base m at)
-  unfolding rule7dinf
-  own7dinf at = own-one _ _
-
-  pub own7stbl : (at : ℕ) → Own (rule7stbl base m at)
-  unfolding rule7stbl
-  own7stbl at =
-      own-then _ _ (own-one at _)
-      (own-then _ _ (own-one at _) (own-then _ _ (own-one at _) (own-then _ _ (own-one at _) (own-one at _))))
-
-  own7 : Own (rule7 base m)
-  unfolding rule7 rule7mvex
-  own7 =
-      own-then _ _ own7moov
-      (own-then _ _ (own7trak _)
-      (own-then _ _ (own7edts _)
-      (own-then _ _ (own7mdia _)
-      (own-then _ _ (own7minf _) (own-then _ _ (own7dinf _) (own-then _ _ (own7stbl _) (own-one _ _)))))))
-
--- rules 8 to 13
-module _ (base : ℕ) (f m : List ℕ) (p : Places) where
-  own2 : (q : Rule) (b : Bool) (n at : ℕ) → Own q → Own (must b n at then q)
-  own2 q b n at o = own-then (must b n at) q (own-must b n at) o
-
-  own8 : Own (rule8 base f m p)
-  unfolding rule8
-  own8 =
-      own2 _ _ _ _
-      (own2 _ _ _ _
-      (own2 _ _ _ _
-      (own2 _ _ _ _
-      (own2 _ _ _ _ (own2 _ _ _ _ (own2 _ _ _ _ (own2 _ _ _ _ (own2 _ _ _ _ (own2 _ _ _ _ (own-must _ _ _))))))))))
-
-  own9 : Own (rule9 f)
-  unfolding rule9
-  own9 = own-must _ _ _
-
-  own10to13 : Own (rules10to13 base m p)
-  unfolding rules10to13 rule10 rule11 rule12 rule13
-  own10to13 =
-      own2 _ _ _ _
-      (own-then _ _ (own2 _ _ _ _ (own-must _ _ _))
-      (own2 _ _ _ _ (own2 _ _ _ _ (own2 _ _ _ _ (own2 _ _ _ _ (own2 _ _ _ _ (own-must _ _ _)))))))
-
--- rules 7 to 13
-pub own7to13 : (base : ℕ) (f m : List ℕ) → Own (rules7to13 base f m)
-unfolding rules7to13 rules10to13
-own7to13 base f m =
-    let p : Places = placesIn m in
-    own-then _ _ (own7 base m) (own-then _ _ (own8 base f m p) (own-then _ _ (own9 base f m p) (own10to13 base f m p)))
+  -- rules 10 to 13
+  pub fair-values : Fair (length m) (rulesOfValues m (placesBy s))
+  unfolding rulesOfValues rule10 rule11 rule12 rule13
+  fair-values =
+      next (h .trak .mdhd .stands) _ _ _
+      (then-keeps (Fair (length m)) _ _ (next (h .trak .tkhd .stands) _ _ _ (last (h .trex) _ _))
+      (next (h .trak .hdlr .stands) _ _ _
+      (next (h .minf .stsd .stands) _ _ _ (next (h .minf .stts .stands) _ _ _ (next (h .minf .stsc .stands) _ _ _ (next (h .minf .stsz .stands) _ _ _ (last (h .minf .stco .stands) _ _)))))))

@@ -1,4 +1,3 @@
-pub mod Counts
-pub mod Groups
-pub mod Heads
-pub mod Within
+pub mod Places
+pub mod Bodies
+pub mod Answers

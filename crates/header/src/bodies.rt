@@ -1,89 +1,167 @@
-// Rule 8: header box bodies.
-ghost use mathlib.Core.Path.{_≡_};
+// Rule 8 in `moov`: one reader a body, which answers what later rules need of it, or that it is wrong.
 ghost use Prim.Native.Nat.{_+_, _≤_};
-ghost use Rattle.rules.specs.Header.{ftypSized, rule8};
-ghost use Rattle.rules.specs.declared.Rule.the-variants.{Breaks};
-ghost use Rattle.header.specs.Groups.{rule8hdlr, rule8stco};
-ghost use Rattle.header.specs.Within.{Within};
-use crate::steps::must;
-use rules::Places;
-use rules::Rule;
+ghost use Rattle.rules.specs.Fields.{either, atLeast, field, timed};
+ghost use Rattle.boxes.specs.Stands.{Stands};
+ghost use Rattle.header.specs.Places.{LocatedIn};
+ghost use Rattle.header.specs.Bodies.{saysMvhd, saysBody, saysTrex, HeadsIn, BodiesAs};
+use crate::containers::Located;
+use boxes::Spot;
+use fields::Version;
+use rules::Defaults;
 
-// Whether `ftyp` has 16 bytes and a multiple of 4.
-fn ftyp_sized(f: &[u8]) -> bool
-    ensures { λ r. ⌜ r ≡ ftypSized (now (f .entry)) ⌝ }
-{
-    let z = fields::short_size(f, 0);
-    if 16 <= z {
-        return z % 4 == 0;
-    }
-    false
+// What the body of `mvhd` is.
+pub enum Mvhd {
+    Plain,
+    Wrong,
 }
 
-// Rule 8's refusal at a box.
-fn breaks8(base: u64, at: usize) -> Rule
-    requires { ⌜ (base ≤ 4294967296) × (at ≤ 4294967296) ⌝ }
-    ensures { λ r. ⌜ r ≡ Breaks 8 0 (base + at) ⌝ }
+// What a body tells: the number that later rules need of it, or that it is wrong.
+pub enum Body {
+    Tells(u32),
+    Wrong,
+}
+
+// What `trex` tells: its track ID and its defaults, or that it is wrong.
+pub enum Trex {
+    Of { id: u32, defaults: Defaults },
+    Wrong,
+}
+
+// What `tkhd`, `mdhd`, `hdlr` and `stsd` tell.
+pub struct Heads {
+    pub id: u32,
+    pub timescale: u32,
+    pub handler: u32,
+    pub stsd: u32,
+}
+
+// What all bodies tell: of a sample table its count, of `trex` its track ID and its defaults.
+pub struct Values {
+    pub heads: Heads,
+    pub stts: u32,
+    pub stsc: u32,
+    pub stsz: u32,
+    pub stco: u32,
+    pub trex: u32,
+    pub defaults: Defaults,
+}
+
+// What rule 8 answers: what the bodies tell, or the place of the first wrong one.
+pub enum Bodies {
+    Read(Values),
+    Wrong(usize),
+}
+
+// `mvhd`: 108 bytes in version 0, 120 in version 1.
+fn read_mvhd(m: &[u8], b: Spot) -> Mvhd
+    requires { ⌜ Stands (now m) b ⌝ }
+    ensures { λ r. ⌜ saysMvhd r (now (m .entry)) (b .at) ⌝ }
 {
-    Rule::Breaks {
-        number: 8,
-        track: 0,
-        place: base + at as u64,
+    let v = fields::versioned(m, b, 108, 120);
+    match v {
+        Version::Zero => Mvhd::Plain,
+        Version::One => Mvhd::Plain,
+        Version::Wrong => Mvhd::Wrong,
     }
 }
 
-// Rule 8 from `stco` on.
-fn rule8stco(m: &[u8], base: u64, p: Places) -> Rule
-    requires { ⌜ (base ≤ 4294967296) × Within p 4294967296 ⌝ }
-    ensures { λ r. ⌜ r ≡ rule8stco base (now (m .entry)) p ⌝ }
+// `tkhd` or `mdhd`, of one size in version 0 and another in version 1: the number behind its two times.
+fn read_timed(m: &[u8], b: Spot, zero: usize, one: usize) -> Body
+    requires { ⌜ Stands (now m) b × (24 ≤ zero) × (32 ≤ one) ⌝ }
+    ensures { λ r. ⌜ saysBody r (either zero one) (timed (now (m .entry)) (b .at)) (now (m .entry)) (b .at) ⌝ }
 {
-    if !fields::at_least(m, p.stco, 16) {
-        return breaks8(base, p.stco);
+    let v = fields::versioned(m, b, zero, one);
+    match v {
+        Version::Zero => Body::Tells(fields::word(m, b, 12)),
+        Version::One => Body::Tells(fields::word(m, b, 20)),
+        Version::Wrong => Body::Wrong,
     }
-    if !fields::at_least(m, p.stsz, 20) {
-        return breaks8(base, p.stsz);
-    }
-    let trex = p.trex;
-    must(fields::plain(m, trex, 32), 8, base + trex as u64)
 }
 
-// Rule 8 from `hdlr` on.
-fn rule8hdlr(m: &[u8], base: u64, p: Places) -> Rule
-    requires { ⌜ (base ≤ 4294967296) × Within p 4294967296 ⌝ }
-    ensures { λ r. ⌜ r ≡ rule8hdlr base (now (m .entry)) p ⌝ }
+// `hdlr` or a sample table, of at least a size: the number k bytes behind its header.
+fn read_least(m: &[u8], b: Spot, least: usize, k: usize) -> Body
+    requires { ⌜ Stands (now m) b × (12 + k ≤ least) ⌝ }
+    ensures { λ r. ⌜ saysBody r (atLeast least) (field (now (m .entry)) (b .at) k) (now (m .entry)) (b .at) ⌝ }
 {
-    if !fields::at_least(m, p.hdlr, 32) {
-        return breaks8(base, p.hdlr);
+    if fields::is_at_least(m, b, least) {
+        return Body::Tells(fields::word(m, b, k));
     }
-    if !fields::at_least(m, p.stsd, 16) {
-        return breaks8(base, p.stsd);
-    }
-    if !fields::at_least(m, p.stts, 16) {
-        return breaks8(base, p.stts);
-    }
-    if !fields::at_least(m, p.stsc, 16) {
-        return breaks8(base, p.stsc);
-    }
-    rule8stco(m, base, p)
+    Body::Wrong
 }
 
-// Rule 8: the sizes and versions of the header's boxes, in the paper's order.
-pub fn rule8(f: &[u8], m: &[u8], base: u64, p: Places) -> Rule
-    requires { ⌜ (base ≤ 4294967296) × Within p 4294967296 ⌝ }
-    ensures { λ r. ⌜ r ≡ rule8 base (now (f .entry)) (now (m .entry)) p ⌝ }
+// `trex`: 32 bytes, version 0.
+fn read_trex(m: &[u8], b: Spot) -> Trex
+    requires { ⌜ Stands (now m) b ⌝ }
+    ensures { λ r. ⌜ saysTrex r (now (m .entry)) (b .at) ⌝ }
 {
-    let ftyp = must(ftyp_sized(f), 8, 0);
-    let Rule::Holds = ftyp else {
-        return ftyp;
+    if fields::is_plain(m, b, 32) {
+        let id = fields::word(m, b, 4);
+        let defaults = Defaults {
+            duration: fields::word(m, b, 12),
+            size: fields::word(m, b, 16),
+            flags: fields::word(m, b, 20),
+        };
+        return Trex::Of { id, defaults };
+    }
+    Trex::Wrong
+}
+
+// Rule 8 from `stts` on, after what was read before.
+fn rule8_tables(m: &[u8], s: Located, heads: Heads) -> Bodies
+    requires { ⌜ LocatedIn (now m) s × HeadsIn (now m) s heads ⌝ }
+    ensures { λ r. ⌜ BodiesAs r (now (m .entry)) s ⌝ }
+{
+    let Body::Tells(stts) = read_least(m, s.minf.stts, 16, 4) else {
+        return Bodies::Wrong(s.minf.stts.at);
     };
-    if !fields::versioned(m, p.mvhd, 108, 120) {
-        return breaks8(base, p.mvhd);
-    }
-    if !fields::versioned(m, p.tkhd, 92, 104) {
-        return breaks8(base, p.tkhd);
-    }
-    if !fields::versioned(m, p.mdhd, 32, 44) {
-        return breaks8(base, p.mdhd);
-    }
-    rule8hdlr(m, base, p)
+    let Body::Tells(stsc) = read_least(m, s.minf.stsc, 16, 4) else {
+        return Bodies::Wrong(s.minf.stsc.at);
+    };
+    let Body::Tells(stco) = read_least(m, s.minf.stco, 16, 4) else {
+        return Bodies::Wrong(s.minf.stco.at);
+    };
+    let Body::Tells(stsz) = read_least(m, s.minf.stsz, 20, 8) else {
+        return Bodies::Wrong(s.minf.stsz.at);
+    };
+    let Trex::Of { id: trex, defaults } = read_trex(m, s.trex) else {
+        return Bodies::Wrong(s.trex.at);
+    };
+    Bodies::Read(Values {
+        heads,
+        stts,
+        stsc,
+        stsz,
+        stco,
+        trex,
+        defaults,
+    })
+}
+
+// Rule 8 of the bodies in `moov`, in the paper's order.
+pub fn rule8(m: &[u8], s: Located) -> Bodies
+    requires { ⌜ LocatedIn (now m) s ⌝ }
+    ensures { λ r. ⌜ BodiesAs r (now (m .entry)) s ⌝ }
+{
+    let Mvhd::Plain = read_mvhd(m, s.mvhd) else {
+        return Bodies::Wrong(s.mvhd.at);
+    };
+    let Body::Tells(id) = read_timed(m, s.trak.tkhd, 92, 104) else {
+        return Bodies::Wrong(s.trak.tkhd.at);
+    };
+    let Body::Tells(timescale) = read_timed(m, s.trak.mdhd, 32, 44) else {
+        return Bodies::Wrong(s.trak.mdhd.at);
+    };
+    let Body::Tells(handler) = read_least(m, s.trak.hdlr, 32, 8) else {
+        return Bodies::Wrong(s.trak.hdlr.at);
+    };
+    let Body::Tells(stsd) = read_least(m, s.minf.stsd, 16, 4) else {
+        return Bodies::Wrong(s.minf.stsd.at);
+    };
+    let heads = Heads {
+        id,
+        timescale,
+        handler,
+        stsd,
+    };
+    rule8_tables(m, s, heads)
 }

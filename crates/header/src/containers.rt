@@ -1,182 +1,167 @@
-// Rule 7, container by container: one walk over its boxes, then the counts in the paper's order.
-ghost use mathlib.Core.Path.{_≡_};
-ghost use Prim.Native.Nat.{_<_, _≤_};
-ghost use lib.ListN.{length};
-ghost use Rattle.rules.specs.Kinds.{elst};
-ghost use Rattle.rules.specs.Header.{oneOf, one};
-ghost use Rattle.boxes.specs.Sights.{seenOf};
-ghost use Rattle.header.specs.Counts.{Walked, Low, extraBy, threeBy, trakBy, mdiaBy, fiveBy, ifSeen};
-use crate::Walk;
-use boxes::NONE;
-use boxes::Sight;
-use boxes::kinds::ELST;
+// Rule 7, container by container: the counts of its boxes, and where the first of each stands in `moov`.
+ghost use Rattle.rules.specs.Header.{trakIn, minfIn};
+ghost use Rattle.boxes.specs.Stands.{Whole};
+ghost use Rattle.header.specs.Places.{At, TrakIn, MinfIn, LocatedIn};
+use boxes::Spot;
+use boxes::kinds;
+use counts::counts;
+use counts::counts_if;
+use counts::first;
+use rules::Entry;
 use rules::Rule;
+use rules::first_broken;
 
-// What is seen of five wanted types in the container at a place of `moov`; only the first may be the media headers.
-pub fn walk(m: &[u8], base: u64, at: usize, a: u32, b: u32, c: u32, d: u32, e: u32) -> Walk
-    requires { ⌜ (base ≤ 4294967296) × (at ≤ 17179869184) × (length (now m) ≤ 4294967296) ⌝ }
-    requires { ⌜ (0 < b) × (0 < c) × (0 < d) × (0 < e) ⌝ }
-    ensures { λ r. ⌜ Walked base (now (m .entry)) at a b c d e r ⌝ }
-    ensures { λ r. ⌜ Low r ⌝ }
+// The counts in `trak`, its `edts` and its `mdia`, and where their boxes stand.
+pub struct InTrak {
+    pub trak: Rule,
+    pub edts: Rule,
+    pub mdia: Rule,
+    pub tkhd: Spot,
+    pub mdhd: Spot,
+    pub hdlr: Spot,
+    pub minf: Spot,
+}
+
+// The counts in `minf`, its `dinf` and its `stbl`, and where their boxes stand.
+pub struct InMinf {
+    pub minf: Rule,
+    pub dinf: Rule,
+    pub stbl: Rule,
+    pub media: Spot,
+    pub stsd: Spot,
+    pub stts: Spot,
+    pub stsc: Spot,
+    pub stsz: Spot,
+    pub stco: Spot,
+}
+
+// What rule 7 says, and where the header's boxes stand in `moov`.
+pub struct Located {
+    pub rule: Rule,
+    pub mvhd: Spot,
+    pub trak: InTrak,
+    pub minf: InMinf,
+    pub trex: Spot,
+}
+
+// `trak`: one `tkhd`, at most one `edts` with one `elst`, one `mdia` with one `mdhd`, one `hdlr`, at most one `elng`, one `minf`.
+fn in_trak(m: &[u8], x: Spot) -> InTrak
+    requires { ⌜ At (now m) (trakIn (now m)) x ⌝ }
+    ensures { λ r. ⌜ TrakIn (now (m .entry)) r ⌝ }
 {
-    let o = fields::inner(m, at);
-    let end = o.end;
-    let t = boxes::tally(&m[..end], o.from, a, b, c, d, e);
-    let container = base + at as u64;
-    let va = t.a;
-    let vb = t.b;
-    let vc = t.c;
-    let vd = t.d;
-    let ve = t.e;
-    Walk {
-        container,
-        base,
-        a: va,
-        b: vb,
-        c: vc,
-        d: vd,
-        e: ve,
+    let none = Entry::Nothing;
+    let tkhd = Entry::One(kinds::TKHD);
+    let edts = Entry::AtMostOne(kinds::EDTS);
+    let mdia = Entry::One(kinds::MDIA);
+    let k = counts(7, m, x, tkhd, edts, mdia);
+    let trak = k.rule;
+    let tkhd = k.a;
+    let edts = k.b;
+    let mdia = k.c;
+    let y = first(mdia, x);
+    let mdhd = Entry::One(kinds::MDHD);
+    let hdlr = Entry::One(kinds::HDLR);
+    let elng = Entry::AtMostOne(kinds::ELNG);
+    let minf = Entry::One(kinds::MINF);
+    let k = counts(7, m, y, mdhd, hdlr, elng);
+    let front = k.rule;
+    let mdhd = k.a;
+    let hdlr = k.b;
+    let k = counts(7, m, y, minf, none, none);
+    let last = k.rule;
+    let minf = k.a;
+    InTrak {
+        trak,
+        edts: counts_if(7, m, edts, Entry::One(kinds::ELST)),
+        mdia: first_broken(front, last),
+        tkhd: first(tkhd, x),
+        mdhd: first(mdhd, y),
+        hdlr: first(hdlr, y),
+        minf: first(minf, y),
     }
 }
 
-// Rule 7 for a type of which there is one box.
-pub fn one(seen: Sight, container: u64, base: u64) -> Rule
-    requires { ⌜ (base ≤ 4294967296) × (seen .second ≤ 4294967296) ⌝ }
-    ensures { λ r. ⌜ r ≡ oneOf 7 container base (seenOf seen) ⌝ }
+// `minf`: one in all of `vmhd`, `smhd`, `sthd`; one `dinf` with one `dref`; one `stbl` with one each of its five tables.
+fn in_minf(m: &[u8], x: Spot) -> InMinf
+    requires { ⌜ At (now m) (minfIn (now m)) x ⌝ }
+    ensures { λ r. ⌜ MinfIn (now (m .entry)) r ⌝ }
 {
-    if seen.first == 0 {
-        return Rule::Breaks {
-            number: 7,
-            track: 0,
-            place: container,
-        };
+    let none = Entry::Nothing;
+    let media = Entry::OneInAll(kinds::VMHD, kinds::SMHD, kinds::STHD);
+    let dinf = Entry::One(kinds::DINF);
+    let stbl = Entry::One(kinds::STBL);
+    let k = counts(7, m, x, media, dinf, stbl);
+    let minf = k.rule;
+    let media = k.a;
+    let dinf = k.b;
+    let stbl = k.c;
+    let dref = Entry::One(kinds::DREF);
+    let k = counts(7, m, first(dinf, x), dref, none, none);
+    let dinf = k.rule;
+    let y = first(stbl, x);
+    let stsd = Entry::One(kinds::STSD);
+    let stts = Entry::One(kinds::STTS);
+    let stsc = Entry::One(kinds::STSC);
+    let stsz = Entry::One(kinds::STSZ);
+    let stco = Entry::One(kinds::STCO);
+    let k = counts(7, m, y, stsd, stts, stsc);
+    let front = k.rule;
+    let stsd = k.a;
+    let stts = k.b;
+    let stsc = k.c;
+    let k = counts(7, m, y, stsz, stco, none);
+    let last = k.rule;
+    let stsz = k.a;
+    let stco = k.b;
+    InMinf {
+        minf,
+        dinf,
+        stbl: first_broken(front, last),
+        media: first(media, x),
+        stsd: first(stsd, y),
+        stts: first(stts, y),
+        stsc: first(stsc, y),
+        stsz: first(stsz, y),
+        stco: first(stco, y),
     }
-    at_most_one(seen, base)
 }
 
-// Rule 7 for a type of which there is at most one box.
-fn at_most_one(seen: Sight, base: u64) -> Rule
-    requires { ⌜ (base ≤ 4294967296) × (seen .second ≤ 4294967296) ⌝ }
-    ensures { λ r. ⌜ r ≡ extraBy base seen ⌝ }
+// Rule 7: `moov` with one `mvhd`, `trak` and `mvex`, then what is in `trak`, then `mvex` with one `trex`.
+pub fn rule7(m: &[u8], head: usize) -> Located
+    requires { ⌜ Whole (now m) head ⌝ }
+    ensures { λ r. ⌜ LocatedIn (now (m .entry)) r ⌝ }
 {
-    if seen.second == 0 {
-        return Rule::Holds;
+    let none = Entry::Nothing;
+    let size = m.len();
+    let x = Spot { at: 0, head, size };
+    let mvhd = Entry::One(kinds::MVHD);
+    let trak = Entry::One(kinds::TRAK);
+    let mvex = Entry::One(kinds::MVEX);
+    let k = counts(7, m, x, mvhd, trak, mvex);
+    let moov = k.rule;
+    let mvhd = k.a;
+    let trak = k.b;
+    let mvex = k.c;
+    let t = in_trak(m, first(trak, x));
+    let i = in_minf(m, t.minf);
+    let y = first(mvex, x);
+    let trex = Entry::One(kinds::TREX);
+    let k = counts(7, m, y, trex, none, none);
+    let mvex = k.rule;
+    let trex = k.a;
+    let trak = t.trak;
+    let edts = t.edts;
+    let mdia = t.mdia;
+    let minf = i.minf;
+    let dinf = i.dinf;
+    let stbl = i.stbl;
+    let lower = first_broken(minf, first_broken(dinf, first_broken(stbl, mvex)));
+    let inner = first_broken(edts, first_broken(mdia, lower));
+    Located {
+        rule: first_broken(moov, first_broken(trak, inner)),
+        mvhd: first(mvhd, x),
+        trak: t,
+        minf: i,
+        trex: first(trex, y),
     }
-    Rule::Breaks {
-        number: 7,
-        track: 0,
-        place: base + seen.second as u64,
-    }
-}
-
-// Rule 7 for a container with one box of each of three types: `moov`, `minf`.
-pub fn three(k: Walk) -> Rule
-    requires { ⌜ Low k ⌝ }
-    ensures { λ r. ⌜ r ≡ threeBy k ⌝ }
-{
-    let seen = k.a;
-    let a = one(seen, k.container, k.base);
-    let Rule::Holds = a else {
-        return a;
-    };
-    let seen = k.b;
-    let b = one(seen, k.container, k.base);
-    let Rule::Holds = b else {
-        return b;
-    };
-    let seen = k.c;
-    one(seen, k.container, k.base)
-}
-
-// Rule 7 for `trak`.
-pub fn in_trak(k: Walk) -> Rule
-    requires { ⌜ Low k ⌝ }
-    ensures { λ r. ⌜ r ≡ trakBy k ⌝ }
-{
-    let seen = k.a;
-    let tkhd = one(seen, k.container, k.base);
-    let Rule::Holds = tkhd else {
-        return tkhd;
-    };
-    let seen = k.b;
-    let edts = at_most_one(seen, k.base);
-    let Rule::Holds = edts else {
-        return edts;
-    };
-    let seen = k.c;
-    one(seen, k.container, k.base)
-}
-
-// Rule 7 for `mdia`.
-pub fn in_mdia(k: Walk) -> Rule
-    requires { ⌜ Low k ⌝ }
-    ensures { λ r. ⌜ r ≡ mdiaBy k ⌝ }
-{
-    let seen = k.a;
-    let mdhd = one(seen, k.container, k.base);
-    let Rule::Holds = mdhd else {
-        return mdhd;
-    };
-    let seen = k.b;
-    let hdlr = one(seen, k.container, k.base);
-    let Rule::Holds = hdlr else {
-        return hdlr;
-    };
-    let seen = k.c;
-    let elng = at_most_one(seen, k.base);
-    let Rule::Holds = elng else {
-        return elng;
-    };
-    let seen = k.d;
-    one(seen, k.container, k.base)
-}
-
-// Rule 7 for a container with one box of each of five types: `stbl`.
-pub fn five(k: Walk) -> Rule
-    requires { ⌜ Low k ⌝ }
-    ensures { λ r. ⌜ r ≡ fiveBy k ⌝ }
-{
-    let seen = k.a;
-    let stsd = one(seen, k.container, k.base);
-    let Rule::Holds = stsd else {
-        return stsd;
-    };
-    let seen = k.b;
-    let stts = one(seen, k.container, k.base);
-    let Rule::Holds = stts else {
-        return stts;
-    };
-    let seen = k.c;
-    let stsc = one(seen, k.container, k.base);
-    let Rule::Holds = stsc else {
-        return stsc;
-    };
-    let seen = k.d;
-    let stsz = one(seen, k.container, k.base);
-    let Rule::Holds = stsz else {
-        return stsz;
-    };
-    let seen = k.e;
-    one(seen, k.container, k.base)
-}
-
-// Rule 7 for a container with one box of one type.
-pub fn single(m: &[u8], base: u64, at: usize, want: u32) -> Rule
-    requires { ⌜ (base ≤ 4294967296) × (at ≤ 17179869184) × (length (now m) ≤ 4294967296) ⌝ }
-    ensures { λ r. ⌜ r ≡ one 7 base (now (m .entry)) at want ⌝ }
-{
-    let k = walk(m, base, at, want, NONE, NONE, NONE, NONE);
-    let seen = k.a;
-    one(seen, k.container, k.base)
-}
-
-// Rule 7 for `edts`, if there.
-pub fn in_edts(m: &[u8], base: u64, edts: Sight) -> Rule
-    requires { ⌜ (base ≤ 4294967296) × (edts .first ≤ 4294967296) × (length (now m) ≤ 4294967296) ⌝ }
-    ensures { λ r. ⌜ r ≡ ifSeen base (now (m .entry)) edts elst ⌝ }
-{
-    if edts.first == 0 {
-        return Rule::Holds;
-    }
-    single(m, base, edts.first, ELST)
 }

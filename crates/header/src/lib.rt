@@ -1,119 +1,91 @@
-// Rules 7 to 13: the header, over the bytes of `ftyp` and of `moov`, each whole.
+// Rules 7 to 13: the header, over what `ftyp` tells and the bytes of `moov`, whole. Every place is one in those bytes.
 ghost use mathlib.Core.Path.{_≡_};
-ghost use Prim.Native.Nat.{_≤_};
 ghost use lib.ListN.{length};
-ghost use Rattle.rules.specs.Header.{rules7to13, placesIn, headerIn};
-ghost use Rattle.header.specs.Heads.{HeadsAs, headsWithin, handed, refused};
+ghost use Rattle.rules.specs.Header.{rule7};
+ghost use Rattle.rules.specs.declared.Ftyp.the-variants.{Branded};
+ghost use Rattle.rules.specs.declared.Rule.the-variants.{Holds};
+ghost use Rattle.boxes.specs.Stands.{Whole};
+ghost use Rattle.header.specs.Places.{LocatedIn};
+ghost use Rattle.header.specs.Answers.{HeadsAs, headsUpTo};
+use bodies::Bodies;
 use bodies::rule8;
-use boxes::Sight;
-use brands::rule9;
-use counts::rule7;
+use containers::Located;
+use containers::rule7;
+use rules::Ftyp;
 use rules::Header;
-use rules::Places;
 use rules::Rule;
-use values::rules10to13;
-use values::tells;
+use values::rules_of_values;
 
 mod bodies;
-mod brands;
 mod containers;
-mod counts;
-mod steps;
+pub mod ftyp;
+mod letters;
 mod values;
 
-// One walk over the boxes of a container: its place and that of `moov` in the track, and what is seen of five wanted types,
-// at places of `moov`.
-pub struct Walk {
-    pub container: u64,
-    pub base: u64,
-    pub a: Sight,
-    pub b: Sight,
-    pub c: Sight,
-    pub d: Sight,
-    pub e: Sight,
-}
-
-// The places in `moov` that the containers above `minf` give.
-pub struct Upper {
-    pub mvhd: usize,
-    pub tkhd: usize,
-    pub mdhd: usize,
-    pub hdlr: usize,
-    pub minf: usize,
-    pub mvex: usize,
-}
-
-// What rule 7 answers: where the header's boxes stand in `moov`, or the refusal.
-pub enum Counted {
-    Found(Places),
-    Refused { number: u64, place: u64 },
-}
-
 // What a good header tells: its values, and where `mdhd` and `hdlr` stand in `moov`.
-pub struct Facts {
+pub struct HeaderFacts {
     pub header: Header,
     pub mdhd: usize,
     pub hdlr: usize,
 }
 
-// What rules 7 to 13 answer: the header's facts, or the refusal.
+// What rules 7 to 13 answer: the header's facts, a refusal at `ftyp`, or one at a place of `moov`.
 pub enum Headed {
-    Good(Facts),
-    Refused { number: u64, place: u64 },
+    Good(HeaderFacts),
+    Ftyp(u64),
+    Moov { number: u64, place: u64 },
 }
 
-// A refusal of rule 7 as an answer.
-fn handed(c: Counted) -> Headed
-    ensures { λ r. ⌜ r ≡ handed c ⌝ }
+// Rules 8 to 13, where rule 7 holds and `ftyp` has a good body.
+fn check_bodies(branded: bool, m: &[u8], s: Located) -> Headed
+    requires { ⌜ LocatedIn (now m) s × (rule7 (now m) ≡ Holds) ⌝ }
+    ensures { λ r. ⌜ HeadsAs r (Branded branded) (now (m .entry)) ⌝ }
+    ensures { λ r. ⌜ headsUpTo r (length (now (m .entry))) ⌝ }
 {
-    match c {
-        Counted::Found(_) => Headed::Refused {
-            number: 0,
-            place: 0,
+    let bodies = rule8(m, s);
+    match bodies {
+        Bodies::Wrong(at) => Headed::Moov {
+            number: 8,
+            place: at as u64,
         },
-        Counted::Refused { number, place } => Headed::Refused { number, place },
+        Bodies::Read(v) => {
+            if !branded {
+                return Headed::Ftyp(9);
+            }
+            let values = rules_of_values(m, s, v);
+            match values {
+                Rule::Breaks { number, place, .. } => Headed::Moov { number, place },
+                Rule::Holds => {
+                    let h = v.heads;
+                    let defaults = v.defaults;
+                    let header = Header {
+                        timescale: h.timescale,
+                        id: h.id,
+                        handler: h.handler,
+                        defaults,
+                    };
+                    let mdhd = s.trak.mdhd.at;
+                    let hdlr = s.trak.hdlr.at;
+                    Headed::Good(HeaderFacts { header, mdhd, hdlr })
+                }
+            }
+        }
     }
 }
 
-// A broken rule as an answer.
-fn refused(r: Rule) -> Headed
-    ensures { λ h. ⌜ h ≡ refused r ⌝ }
+// Rules 7 to 13 over what `ftyp` tells and the bytes of `moov`, whose header has some bytes.
+pub fn check(f: Ftyp, m: &[u8], head: usize) -> Headed
+    requires { ⌜ Whole (now m) head ⌝ }
+    ensures { λ r. ⌜ HeadsAs r f (now (m .entry)) ⌝ }
+    ensures { λ r. ⌜ headsUpTo r (length (now (m .entry))) ⌝ }
 {
-    match r {
-        Rule::Holds => Headed::Refused {
-            number: 0,
-            place: 0,
+    let s = rule7(m, head);
+    let rule = s.rule;
+    match rule {
+        Rule::Breaks { number, place, .. } => Headed::Moov { number, place },
+        Rule::Holds => match f {
+            Ftyp::Wrong => Headed::Ftyp(8),
+            Ftyp::Branded(b) => check_bodies(b, m, s),
         },
-        Rule::Breaks { number, place, .. } => Headed::Refused { number, place },
     }
-}
-
-// Rules 7 to 13 over the bytes of `ftyp` and of `moov`, which stands at a base of the track.
-pub fn check(f: &[u8], m: &[u8], base: u64) -> Headed
-    requires { ⌜ (base ≤ 4294967296) × (length (now m) ≤ 4294967296) ⌝ }
-    ensures { λ r. ⌜ HeadsAs r (rules7to13 base (now (f .entry)) (now (m .entry))) (headerIn (now (m .entry))) (placesIn (now (m .entry))) ⌝ }
-    ensures { λ r. ⌜ headsWithin r (length (now (m .entry))) ⌝ }
-{
-    let counted = rule7(m, base);
-    let Counted::Found(p) = counted else {
-        return handed(counted);
-    };
-    let bodies = rule8(f, m, base, p);
-    let Rule::Holds = bodies else {
-        return refused(bodies);
-    };
-    let brands = rule9(f);
-    let Rule::Holds = brands else {
-        return refused(brands);
-    };
-    let values = rules10to13(m, base, p);
-    let Rule::Holds = values else {
-        return refused(values);
-    };
-    let header = tells(m, p);
-    Headed::Good(Facts {
-        header,
-        mdhd: p.mdhd,
-        hdlr: p.hdlr,
-    })
 }

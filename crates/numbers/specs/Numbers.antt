@@ -43,3 +43,8 @@ signed x = when (ltb x 2147483648) (pos x) (negsuc (4294967295 - x))
 unfoldable pub isPlace : ℤ → ℕ → Bool
 isPlace (pos n) e = eqb n e
 isPlace (negsuc n) e = false
+
+-- the mark of this file: its definitions unfold wherever it does
+unfoldable pub computedNumbers : Unit {0}
+unfolding be2 be3 be4 be8 has signed isPlace
+computedNumbers = tt

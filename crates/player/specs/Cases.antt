@@ -8,7 +8,7 @@ use Rattle.rules.specs.Computed.{computed}
 use Rattle.rules.specs.Track.{ruling}
 use Rattle.rules.specs.Bundle.{tracks}
 use Rattle.rules.specs.Set.{setRuling, setOutcome}
-use Rattle.rules.specs.Player.{stuck, passed, play, rules1to18}
+use Rattle.rules.specs.Player.{stuck, passed, play, rulesBeforeTiming}
 use Rattle.rules.specs.declared.Rule.the-variants.{Holds, Breaks}
 use lib.ListN.{length, take}
 
@@ -119,7 +119,7 @@ cut = take 629 (single 0 108 30)
 unfoldable pub between : List ℕ
 between = header ++ moofOf 0 (run 0 108 []) ++ boxed (letters 0x66 0x72 0x65 0x65) [] ++ boxed mdat (zeros 30)
 
-pub breaks-4 : rules1to18 cut ≡ Breaks 4 0 592
+pub breaks-4 : rulesBeforeTiming cut ≡ Breaks 4 0 592
 unfolding computed single cut
 breaks-4 = refl
 
@@ -127,7 +127,7 @@ pub stuck-4 : play (cut ∷ []) (0 ∷ []) ≡ stuck
 unfolding computed single cut
 stuck-4 = refl
 
-pub breaks-6 : rules1to18 between ≡ Breaks 6 0 592
+pub breaks-6 : rulesBeforeTiming between ≡ Breaks 6 0 592
 unfolding computed between
 breaks-6 = refl
 
@@ -147,7 +147,7 @@ stuck-12 = refl
 unfoldable pub twoStarts : List ℕ
 twoStarts = header ++ fragment 0 108 30 ++ moofOf 180000 (boxed tfdt (zeros 8) ++ run 0 124 []) ++ boxed mdat (zeros 30)
 
-pub breaks-14 : rules1to18 twoStarts ≡ Breaks 14 0 694
+pub breaks-14 : rulesBeforeTiming twoStarts ≡ Breaks 14 0 694
 unfolding computed twoStarts
 breaks-14 = refl
 

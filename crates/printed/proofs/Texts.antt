@@ -14,7 +14,7 @@ use Rattle.rules.specs.Track.{fragmentCount, timescale, boundaries, refused, ac
 use Rattle.rules.specs.Set.{track0, bundleRuling, setOutcome}
 use Rattle.rules.specs.declared.Rule.the-variants.{Holds, Breaks}
 use Rattle.rules.proofs.Boundaries.{boundaries-length}
-use Rattle.rules.proofs.Refusals.{refusals-1-to-28}
+use Rattle.rules.proofs.Refusals.{never-0}
 use Rattle.rules.proofs.Caller.{caller-0}
 use Rattle.lines.specs.Lines.{refusedLine, acceptedLine, tickLines, setLines}
 use Rattle.printed.specs.Printed.{inputLimit, table, printed}
@@ -43,7 +43,7 @@ module _ (b : List ℕ) (h : length b ≤ inputLimit) where
   unfolding setOutcome
   refused-text {n} {k} {p} e =
       let o : refused n k p table ≡ setOutcome b table = rw e in
-      sym (held b h refl o) ∙ refusal-lines (length (tracks b)) n k p table (refusals-1-to-28 b .told n k p e .0)
+      sym (held b h refl o) ∙ refusal-lines (length (tracks b)) n k p table (never-0 b n k p e)
 
   -- an acceptance counts a fragment
   counts : (count scale : ℕ) (numbers : List ℕ) → accepted count scale numbers table ≡ setOutcome b table → 1 ≤ count

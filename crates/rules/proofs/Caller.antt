@@ -1,7 +1,7 @@
 -- Demand 3 from what a caller sees: the outcome of the set job. Its contract is that what it gives back is `setOutcome`.
 use mathlib.Core.Path.{_≡_, refl, sym, ap, subst, _∙_}
 use mathlib.Core.Logic.{_⊎_, inl, inr}
-use mathlib.Core.Bool.{Bool, true, false}
+use mathlib.Core.Bool.{Bool, true, false, false≢true}
 use mathlib.Core.List.{List, [], _∷_, _++_}
 use Prim.Native.Nat.{ℕ, suc, _+_, _≤_, _<_}
 use native.Mathlib.Omega.{arith}
@@ -9,6 +9,7 @@ use lib.ListN.{length, take, drop, length-append}
 use lib.Seq.{take-append-le}
 use lib.Dec.{ltb}
 use Rattle.numbers.specs.Numbers.{when}
+use Rattle.rules.specs.Refusals.{member, setNumbers}
 use Rattle.rules.specs.Rules.{_then_, onRule}
 use Rattle.rules.specs.Track.{rule1, fragmentCount, timescale, boundaries, Outcome, refused, accepted, roomFor}
 use Rattle.rules.specs.Bundle.{Records, none, wrong, track, records, rule24From, rule24, tracksOf, tracks}
@@ -19,7 +20,7 @@ use Rattle.rules.specs.declared.Rule.{Rule}
 use Rattle.rules.specs.declared.Rule.the-variants.{Holds, Breaks}
 use Rattle.rules.proofs.Then.{broken, then-first, then-second}
 use Rattle.rules.proofs.Boundaries.{a-fragment, boundaries-length}
-use Rattle.rules.proofs.Refusals.{refusals-1-to-28, refused-as-set}
+use Rattle.rules.proofs.Refusals.{never-0, refused-as-set}
 use Rattle.rules.proofs.FirstHalf.{each-ruling, accepted-set, first-half-bundle}
 use Rattle.rules.proofs.SecondHalf.{stays, names-a-track, second-half}
 
@@ -52,7 +53,7 @@ accepts b t has no-refusal h = go (bundleRuling b) refl h
 
     go : (r : Rule) → bundleRuling b ≡ r → has (f r) → Accepted b t (f r)
     go Holds e y = room (ltb (length t) (length (boundaries s₀))) e y
-    go (Breaks n k p) e y = absurd (no-refusal n k p (refusals-1-to-28 b .told n k p e .0) y)
+    go (Breaks n k p) e y = absurd (no-refusal n k p (never-0 b n k p e) y)
 
 -- a count of at least one is an acceptance: a refusal counts none
 pub counted : (b t : List ℕ) → 1 ≤ setOutcome b t .verdict .count → Accepted b t (setOutcome b t)
@@ -130,10 +131,10 @@ caller-plan b t o e plan h l a =
     let c = counted b t (omega (arith, h, l, m)) in
     ((h, a), omega (arith, l, m, c .2))
 
--- an outcome with a number beyond 23 is a refusal of the bundle, with the track that it names
-refusal-seen : (b t : List ℕ) → 23 < setOutcome b t .verdict .number
+-- an outcome with a number of a set is a refusal of the bundle, with the track that it names
+refusal-seen : (b t : List ℕ) → member (setOutcome b t .verdict .number) setNumbers ≡ true
     → (p : ℕ) × (bundleRuling b ≡ Breaks (setOutcome b t .verdict .number) (setOutcome b t .verdict .track) p)
-unfolding setOutcome roomFor accepted refused
+unfolding setOutcome roomFor accepted refused member
 refusal-seen b t h = go (bundleRuling b) refl h
   where
     s₀ : List ℕ
@@ -142,19 +143,21 @@ refusal-seen b t h = go (bundleRuling b) refl h
     f : Rule → Outcome
     f r = onRule r (λ _. roomFor (fragmentCount s₀) (timescale s₀) (boundaries s₀) t) (λ n k p. refused n k p t)
 
-    room : (w : Bool) → 23 < when w (refused 23 0 0 t) (accepted (fragmentCount s₀) (timescale s₀) (boundaries s₀) t) .verdict .number → ⊥
-    room true l = omega (arith, l)
-    room false l = omega (arith, l)
+    room : (w : Bool)
+        → member (when w (refused 23 0 0 t) (accepted (fragmentCount s₀) (timescale s₀) (boundaries s₀) t) .verdict .number) setNumbers ≡ true → ⊥
+    room true m = false≢true m
+    room false m = false≢true m
 
-    go : (r : Rule) → bundleRuling b ≡ r → 23 < f r .verdict .number
+    go : (r : Rule) → bundleRuling b ≡ r → member (f r .verdict .number) setNumbers ≡ true
         → (p : ℕ) × (bundleRuling b ≡ Breaks (f r .verdict .number) (f r .verdict .track) p)
-    go Holds e l = absurd (room (ltb (length t) (length (boundaries s₀))) l)
-    go (Breaks n k p) e l = (p, e)
+    go Holds e m = absurd (room (ltb (length t) (length (boundaries s₀))) m)
+    go (Breaks n k p) e m = (p, e)
 
 -- the verdict was 27 or 28: it names a track of the bundle, and the two plans that stay on track 0 and on that one tell the set apart
 pub caller-27-or-28 : (b t : List ℕ) (o : Outcome) → o ≡ setOutcome b t → (o .verdict .number ≡ 27) ⊎ (o .verdict .number ≡ 28)
     → (o .verdict .track < length (tracks b))
     × ToldApart play (tracks b) (stays (tracks b) (o .verdict .track) 0) (stays (tracks b) (o .verdict .track) (o .verdict .track))
+unfolding member
 caller-27-or-28 b t o e w = subst Apart (sym e) (go (subst Number e w))
   where
     Apart : Outcome → Type 0
@@ -168,13 +171,13 @@ caller-27-or-28 b t o e w = subst Apart (sym e) (go (subst Number e w))
     k : ℕ
     k = setOutcome b t .verdict .track
 
-    at : (n : ℕ) → 24 < n → setOutcome b t .verdict .number ≡ n
+    at : (n : ℕ) → member n setNumbers ≡ true → setOutcome b t .verdict .number ≡ n
         → (p : ℕ) × Singly (tracks b) × (setRuling (tracks b) ≡ Breaks n k p)
     at n l q =
-        let y = refusal-seen b t (omega (arith, l, q)) in
+        let y = refusal-seen b t (rw q l) in
         let r = refused-as-set b n k (y .0) l (y .1 ∙ ap (λ (i : ℕ). Breaks i k (y .0)) q) in
         (y .0, each-ruling 0 (tracks b) (r .0), r .1)
 
     go : Number (setOutcome b t) → Apart (setOutcome b t)
-    go (inl q) = let y = at 27 (omega arith) q in (names-a-track (tracks b) 27 k (y .0) (y .1) (y .2), second-half (tracks b) k (y .0) (y .1) (inl (y .2)))
-    go (inr q) = let y = at 28 (omega arith) q in (names-a-track (tracks b) 28 k (y .0) (y .1) (y .2), second-half (tracks b) k (y .0) (y .1) (inr (y .2)))
+    go (inl q) = let y = at 27 refl q in (names-a-track (tracks b) 27 k (y .0) (y .1) (y .2), second-half (tracks b) k (y .0) (y .1) (inl (y .2)))
+    go (inr q) = let y = at 28 refl q in (names-a-track (tracks b) 28 k (y .0) (y .1) (y .2), second-half (tracks b) k (y .0) (y .1) (inr (y .2)))

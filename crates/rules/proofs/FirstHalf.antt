@@ -9,7 +9,7 @@ use borrow.Author.Tests.{eqb-true}
 use Rattle.rules.specs.Rules.{_then_, must, ofTrack}
 use Rattle.rules.specs.Track.{rule1, ruling, fragments, fragmentCount, timescale, boundaries}
 use Rattle.rules.specs.Bundle.{rule24, tracks}
-use Rattle.rules.specs.Set.{rule25, rule26, rule27, firstOr, rule28From, rule28, agrees, rulings, agree, track0, setRuling, bundleRuling}
+use Rattle.rules.specs.Set.{hdlrAt, mdhdAt, handler, same, firstOr, rule28From, rule28, agrees, rulings, agree, track0, setRuling, bundleRuling}
 use Rattle.rules.specs.Player.{stuck, passed, play}
 use Rattle.rules.specs.Plans.{All, Plan, Singly, HasFirstHalf}
 use Rattle.rules.specs.declared.Rule.the-variants.{Holds}
@@ -36,17 +36,24 @@ same-ticks last (x ∷ xs) (y ∷ ys) ps l h =
     (eqb-true y x (must-holds (eqb y x) 28 (firstOr last ps) (then-first first rest h)))
     (same-ticks (firstOr last ps) xs ys (drop 1 ps) (omega (arith, l)) (then-second first rest h))
 
+-- a value that is track 0's
+pub same-value : (n : ℕ) (value place : List ℕ → ℕ) (s₀ s : List ℕ) → same n value place s₀ s ≡ Holds → value s ≡ value s₀
+unfolding same
+same-value n value place s₀ s h = eqb-true (value s) (value s₀) (must-holds _ _ _ h)
+
 -- 25 to 28 make tracks alike
 agrees-alike : (s₀ s : List ℕ) → ruling s ≡ Holds → agrees s₀ s ≡ Holds → Alike s₀ s
-unfolding agrees rule26 rule27 rule28
+unfolding agrees rule28
 agrees-alike s₀ s r h =
-    let h₂ = then-second (rule25 s₀ s) (rule26 s₀ s then rule27 s₀ s then rule28 s₀ s) h in
-    let h₃ = then-second (rule26 s₀ s) (rule27 s₀ s then rule28 s₀ s) h₂ in
-    let n = eqb-true (fragmentCount s) (fragmentCount s₀) (must-holds _ _ _ (then-first (rule27 s₀ s) (rule28 s₀ s) h₃)) in (
+    let of26 = same 26 timescale mdhdAt s₀ s in
+    let of27 = same 27 fragmentCount length s₀ s in
+    let h₂ = then-second (same 25 handler hdlrAt s₀ s) (of26 then of27 then rule28 s₀ s) h in
+    let h₃ = then-second of26 (of27 then rule28 s₀ s) h₂ in
+    let n = same-value 27 fragmentCount length s₀ s (then-first of27 (rule28 s₀ s) h₃) in (
       r,
-      eqb-true (timescale s) (timescale s₀) (must-holds _ _ _ (then-first (rule26 s₀ s) (rule27 s₀ s then rule28 s₀ s) h₂)),
+      same-value 26 timescale mdhdAt s₀ s (then-first of26 (of27 then rule28 s₀ s) h₂),
       n,
-      same-ticks 0 (boundaries s₀) (boundaries s) (fragments s) (as-many s s₀ n) (then-second (rule27 s₀ s) (rule28 s₀ s) h₃),
+      same-ticks 0 (boundaries s₀) (boundaries s) (fragments s) (as-many s s₀ n) (then-second of27 (rule28 s₀ s) h₃),
     )
 
 -- tracks accepted one by one

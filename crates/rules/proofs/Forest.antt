@@ -1,5 +1,5 @@
 -- Laws of boxes in bytes: what one header tells, the forest and the run of siblings box by box. Fuel is dealt with here; beside it only
--- two inductions over a forest, in Walk and in Refusals, see it.
+-- two inductions over a forest, in Walk and in Misframed, see it.
 use mathlib.Core.Path.{_≡_, refl, sym, ap, _∙_}
 use mathlib.Core.List.{List, [], _∷_}
 use mathlib.Core.Bool.{Bool, true, false}
@@ -9,8 +9,9 @@ use lib.ListN.{length, length-take, length-drop}
 use lib.Dec.{ltb, eqb}
 use borrow.Author.Tests.{ltb-false, eq-eqb}
 use Rattle.numbers.specs.Numbers.{be4, be8, when}
-use Rattle.rules.specs.Kinds.{named}
-use Rattle.rules.specs.Boxes.{part, sized, lookAt, look, onLook, inside, Box, Forest, end, bad, node, within, grow, forest, tops, boxes, again, seenFrom, placesOf, headOf, sizeOf, kindOf}
+use Rattle.rules.specs.Counts.{wanted, again, seenFrom}
+use Rattle.rules.specs.declared.Entry.{Entry}
+use Rattle.rules.specs.Boxes.{part, sized, lookAt, look, onLook, inside, Forest, end, bad, node, within, grow, forest, tops, boxes, placesOf, headOf, sizeOf, kindOf}
 use Rattle.rules.specs.declared.Path.{Path}
 use Rattle.rules.specs.declared.Path.the-variants.{Flat}
 use Rattle.rules.specs.declared.Inside.{Inside}
@@ -105,7 +106,7 @@ abbrev pub sprout : (Path → List ℕ → Forest) → (ℕ → Forest) → Path
 sprout g r p s at l =
     onLook l end (λ n. bad n at)
     (λ h z k.
-    node (record { at = at; head = h; size = z; kind = k })
+    node (record { at = at; inner = h; size = z; kind = k })
     (within g (inside p k) (part s (at + h) (z - h)))
     (r (at + z)))
 
@@ -180,13 +181,13 @@ module _ (p : Path) (s : List ℕ) (at : ℕ) where
   pub forest-box :
       (h z k : ℕ) → look s at ≡ Header h z k →
       forest p s at
-      ≡ node (record { at = at; head = h; size = z; kind = k })
+      ≡ node (record { at = at; inner = h; size = z; kind = k })
       (within (λ q t. forest q t 0) (inside p k) (part s (at + h) (z - h)))
       (forest p s (at + z))
   forest-box h z k = forest-by p s at (Header h z k)
 
 -- the sibling boxes by what stands at the place
-pub boxes-by : (s : List ℕ) (at : ℕ) (l : Look) → look s at ≡ l → boxes s at ≡ onLook l [] (λ n. []) (λ h z k. record { at = at; head = h; size = z; kind = k } ∷ boxes s (at + z))
+pub boxes-by : (s : List ℕ) (at : ℕ) (l : Look) → look s at ≡ l → boxes s at ≡ onLook l [] (λ n. []) (λ h z k. record { at = at; inner = h; size = z; kind = k } ∷ boxes s (at + z))
 unfolding boxes tops
 boxes-by s at Nothing e = ap tops (forest-by Flat s at Nothing e)
 boxes-by s at Short e = ap tops (forest-by Flat s at Short e)
@@ -207,7 +208,7 @@ module _ (s : List ℕ) (at : ℕ) where
   pub boxes-beyond : look s at ≡ Beyond → boxes s at ≡ []
   boxes-beyond = boxes-by s at Beyond
 
-  pub boxes-box : (h z k : ℕ) → look s at ≡ Header h z k → boxes s at ≡ record { at = at; head = h; size = z; kind = k } ∷ boxes s (at + z)
+  pub boxes-box : (h z k : ℕ) → look s at ≡ Header h z k → boxes s at ≡ record { at = at; inner = h; size = z; kind = k } ∷ boxes s (at + z)
   boxes-box h z k = boxes-by s at (Header h z k)
 
   -- a box that is wanted, and one that is not, among the places of a type
@@ -225,12 +226,12 @@ module _ (s : List ℕ) (at : ℕ) where
 
   -- one box more seen
   pub seen-box :
-      (v : Seen) (w h z k : ℕ) → look s at ≡ Header h z k →
-      seenFrom v w (boxes s at) ≡ seenFrom (when (named w k) (again at v) v) w (boxes s (at + z))
+      (v : Seen) (w : Entry) (h z k : ℕ) → look s at ≡ Header h z k →
+      seenFrom v w (boxes s at) ≡ seenFrom (when (wanted w k) (again at v) v) w (boxes s (at + z))
   unfolding seenFrom
   seen-box v w h z k e = ap (seenFrom v w) (boxes-box h z k e)
 
   -- all of them seen
-  pub seen-end : (v : Seen) (w : ℕ) → boxes s at ≡ [] → seenFrom v w (boxes s at) ≡ v
+  pub seen-end : (v : Seen) (w : Entry) → boxes s at ≡ [] → seenFrom v w (boxes s at) ≡ v
   unfolding seenFrom
   seen-end v w = ap (seenFrom v w)

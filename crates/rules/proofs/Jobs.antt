@@ -1,5 +1,5 @@
 -- Over any rules that give a job's outcome: there is one possible outcome, examples shut the dummies out, and number 0 is an acceptance.
-use Prim.Native.Nat.{ℕ, zero, suc, _+_, _<_}
+use Prim.Native.Nat.{ℕ, zero, suc, _<_}
 use mathlib.Core.Bool.{Bool, true, false}
 use mathlib.Core.List.{List}
 use mathlib.Core.Path.{_≡_, refl, sym, ap, _∙_}
@@ -9,9 +9,11 @@ use borrow.Author.Tests.{eqb-true, eqb-false}
 use lib.Dec.{eqb}
 use lib.ListN.{length, drop, set, getD, replicate, length-drop, length-replicate, getD-replicate}
 use lib.Seq.{drop-append-seam, getD-drop, getD-set-same}
+use Rattle.rules.specs.Refusals.{member}
 use Rattle.rules.specs.Track.{Outcome, refused, accepted}
 use Rattle.rules.specs.declared.Verdict.{Verdict}
 use Rattle.rules.specs.Jobs.{Job, Permits, Shut, Dummy, refuses-all, one-verdict, never-writes, invents-count, writes-past, Shown, Answered, is-accepted, is-refused, no-room}
+use Rattle.rules.proofs.Members.{not-both}
 
 -- two outcomes that a contract permits are equal, verdict and table
 pub unique : (rules : Job) (s t : List ℕ) (v w : Verdict) (u x : List ℕ) → Permits rules s t v u → Permits rules s t w x → (v ≡ w) × (u ≡ x)
@@ -72,18 +74,20 @@ module _ (rules : Job) (e : Shown rules) (job : Job) where
   shut (invents-count count by) = invented count by (eqb (count (length (e .good)) (e .lent)) (rules (e .good) (e .lent) .verdict .count)) refl
   shut (writes-past at value left writes) = past (e .good) (at (e .good)) (value (e .good)) (left (e .good)) (writes (e .good))
 
-module _ {top count scale : ℕ} {numbers t : List ℕ} {o : Outcome} where
+module _ {refusals : List ℕ} {count scale : ℕ} {numbers t : List ℕ} {o : Outcome} where
   -- where the verdict's number is 0 the outcome is an acceptance: no refusal has that number
-  pub zero-accepts : Answered top count scale numbers t o → o .verdict .number ≡ 0 → o ≡ accepted count scale numbers t
+  pub zero-accepts : member 0 refusals ≡ false → Answered refusals count scale numbers t o → o .verdict .number ≡ 0
+      → o ≡ accepted count scale numbers t
   unfolding refused
-  zero-accepts (is-accepted h e) z = e
-  zero-accepts (is-refused n k place l h e) z = let f : n ≡ 0 = sym (ap (λ (o : Outcome). o .verdict .number) e) ∙ z in absurd (omega arith)
-  zero-accepts (no-room h e) z = let f : _≡_ {A = ℕ} 23 0 = sym (ap (λ (o : Outcome). o .verdict .number) e) ∙ z in absurd (omega arith)
+  zero-accepts none (is-accepted h e) z = e
+  zero-accepts none (is-refused n k place m e) z =
+      let f : n ≡ 0 = sym (ap (λ (o : Outcome). o .verdict .number) e) ∙ z in absurd (not-both 0 refusals (rw f at m) none)
+  zero-accepts none (no-room h e) z = let f : _≡_ {A = ℕ} 23 0 = sym (ap (λ (o : Outcome). o .verdict .number) e) ∙ z in absurd (omega arith)
 
   -- past the numbers of an acceptance the table is as it was lent
-  pub left-past : Answered top count scale numbers t o → drop (length numbers) (o .table) ≡ drop (length numbers) t
+  pub left-past : Answered refusals count scale numbers t o → drop (length numbers) (o .table) ≡ drop (length numbers) t
   unfolding refused accepted
   left-past (is-accepted h e) =
       ap (λ (o : Outcome). drop (length numbers) (o .table)) e ∙ drop-append-seam numbers (drop (length numbers) t)
-  left-past (is-refused n k place l h e) = ap (λ (o : Outcome). drop (length numbers) (o .table)) e
+  left-past (is-refused n k place m e) = ap (λ (o : Outcome). drop (length numbers) (o .table)) e
   left-past (no-room h e) = ap (λ (o : Outcome). drop (length numbers) (o .table)) e

@@ -1,12 +1,13 @@
--- The numbers of framing: a slice that is not framed is refused under 2 to 5.
-use Prim.Native.Nat.{ℕ, zero, suc, _+_, _-_, _≤_}
+-- The numbers of framing: a slice that is not framed is refused under one of them.
+use Prim.Native.Nat.{ℕ, zero, suc, _+_, _-_}
+use mathlib.Core.Path.{_≡_, refl}
 use mathlib.Core.Bool.{Bool, true, false}
 use mathlib.Core.List.{List}
-use native.Mathlib.Omega.{arith}
 use lib.ListN.{length}
 use lib.Dec.{leb}
 use Rattle.numbers.specs.Numbers.{when}
 use Rattle.rules.specs.Limits.{boxLimit}
+use Rattle.rules.specs.Refusals.{member, framingNumbers}
 use Rattle.rules.specs.Boxes.{Forest, end, bad, node, part, look, inside, within, grow, forest}
 use Rattle.rules.specs.Framing.{onFraming, rule5, framing, framed}
 use Rattle.rules.specs.declared.Path.{Path}
@@ -19,19 +20,19 @@ use Rattle.rules.specs.declared.Framing.{Framing}
 use Rattle.rules.specs.declared.Framing.the-variants.{Framed, Misframed}
 use Rattle.rules.proofs.Forest.{sprout}
 
--- whole, or a number from 2 to 5
-abbrev pub From2To5 : Framing → Type 0
-From2To5 (Framed n) = Unit {0}
-From2To5 (Misframed k p) = (2 ≤ k) × (k ≤ 5)
+-- whole, or a number of framing
+abbrev pub FramingNumbered : Framing → Type 0
+FramingNumbered (Framed n) = Unit {0}
+FramingNumbered (Misframed k p) = member k framingNumbers ≡ true
 
--- every broken header of a forest hands on 2, 3 or 4
+-- every broken header of a forest hands on a number of framing
 abbrev Headed : Forest → Type 0
 Headed end = Unit {0}
-Headed (bad n p) = (2 ≤ n) × (n ≤ 4)
+Headed (bad n p) = member n framingNumbers ≡ true
 Headed (node x i r) = Headed i × Headed r
 
 headed : (f : ℕ) (p : Path) (s : List ℕ) (at : ℕ) → Headed (grow f p s at)
-unfolding grow
+unfolding grow member
 headed zero p s at = tt
 headed (suc f) p s at = go (look s at) (λ q t a. headed f q t a)
   where
@@ -42,33 +43,33 @@ headed (suc f) p s at = go (look s at) (λ q t a. headed f q t a)
     go : (l : Look) → ((q : Path) (t : List ℕ) (a : ℕ) → Headed (grow f q t a))
         → Headed (sprout (λ q t. grow f q t 0) (grow f p s) p s at l)
     go Nothing g = tt
-    go Short g = omega arith
-    go Small g = omega arith
-    go Beyond g = omega arith
+    go Short g = refl
+    go Small g = refl
+    go Beyond g = refl
     go (Header h z k) g = (inner (inside p k) (part s (at + h) (z - h)) g, g p s (at + z))
 
-by-5 : (n place : ℕ) (r : Framing) → From2To5 r → From2To5 (rule5 n place r)
-unfolding rule5
+by-5 : (n place : ℕ) (r : Framing) → FramingNumbered r → FramingNumbered (rule5 n place r)
+unfolding rule5 member
 by-5 n place r h = go (leb boxLimit n)
   where
-    go : (b : Bool) → From2To5 (when b (Misframed 5 place) r)
-    go true = omega arith
+    go : (b : Bool) → FramingNumbered (when b (Misframed 5 place) r)
+    go true = refl
     go false = h
 
-by-forest : (t : Forest) (base n : ℕ) → Headed t → From2To5 (framing t base n)
+by-forest : (t : Forest) (base n : ℕ) → Headed t → FramingNumbered (framing t base n)
 unfolding framing
 by-forest end base n h = tt
-by-forest (bad k p) base n h = by-5 n (base + p) (Misframed k (base + p)) (omega arith)
+by-forest (bad k p) base n h = by-5 n (base + p) (Misframed k (base + p)) h
 by-forest (node x i r) base n h =
     by-5 n (base + x .at) _
-    (go (framing i (base + x .at + x .head) (n + 1)) (by-forest i (base + x .at + x .head) (n + 1) (h .0)) (λ m. by-forest r base m (h .1)))
+    (go (framing i (base + x .at + x .inner) (n + 1)) (by-forest i (base + x .at + x .inner) (n + 1) (h .0)) (λ m. by-forest r base m (h .1)))
   where
-    go : (y : Framing) → From2To5 y → ((m : ℕ) → From2To5 (framing r base m))
-        → From2To5 (onFraming y (λ m. framing r base m) (λ k p. Misframed k p))
+    go : (y : Framing) → FramingNumbered y → ((m : ℕ) → FramingNumbered (framing r base m))
+        → FramingNumbered (onFraming y (λ m. framing r base m) (λ k p. Misframed k p))
     go (Framed m) c f = f m
     go (Misframed k p) c f = c
 
--- a slice is framed whole, or refused under 2 to 5
-pub from-2-to-5 : (s : List ℕ) → From2To5 (framed s)
+-- a slice is framed whole, or refused under a number of framing
+pub framing-numbered : (s : List ℕ) → FramingNumbered (framed s)
 unfolding forest
-from-2-to-5 s = by-forest (forest Top s 0) 0 0 (headed (length s - 0) Top s 0)
+framing-numbered s = by-forest (forest Top s 0) 0 0 (headed (length s - 0) Top s 0)

@@ -11,7 +11,7 @@ use lib.ListN.{length, take, drop, getElem?, replicate, length-replicate, length
 use lib.Seq.{length-take-le, take-length}
 use borrow.Author.Tests.{eq-eqb}
 use Rattle.rules.specs.Track.{ruling, headerOf, fragments, fragmentCount, timescale, startAt, boundaries}
-use Rattle.rules.specs.Player.{Piece, Stream, State, pieceAt, rules1to18, good, streamOf, fits, begin, goes, after, onOption, stepOn, Played, stuck, passed, tick, playFrom, firstStart, playStreams, play}
+use Rattle.rules.specs.Player.{Piece, Stream, State, pieceAt, rulesBeforeTiming, good, streamOf, fits, begin, goes, after, onOption, stepOn, Played, stuck, passed, tick, playFrom, firstStart, playStreams, play}
 use Rattle.rules.specs.Plans.{All}
 use Rattle.rules.specs.declared.Rule.the-variants.{Holds}
 use Rattle.rules.proofs.Laws.{all-map, beyond, drop-first, drop-rest, map-at, map-none}
@@ -19,7 +19,7 @@ use Rattle.rules.proofs.Boundaries.{Tiles, Tiled, tiles-fewer, tiled, b
 use Rattle.rules.proofs.Stuck.{step-goes, play-step, play-stuck, plan-stuck, play-is-stuck, went-through}
 use Rattle.rules.proofs.Sound.{sound}
 
--- a track that fits: rules 1 to 18 hold, this timescale, and from the k-th on fragments from a start over these ends
+-- a track that fits: the rules before timing hold, this timescale, and from the k-th on fragments from a start over these ends
 abbrev pub Fits : ℕ → ℕ → ℕ → List ℕ → Stream → Type 0
 Fits scale k a bs t = (t .sound ≡ true) × (t .scale ≡ scale) × Tiles (drop k (t .pieces)) a bs
 
@@ -150,7 +150,7 @@ chosen-fits : (ss : List (List ℕ)) (scale a : ℕ) (bs : List ℕ) (n i : ℕ)
 unfolding streamOf
 chosen-fits ss scale a bs n i c =
     let s = c .0 in
-    let h : rules1to18 s ≡ Holds = sound s (c .2) in
+    let h : rulesBeforeTiming s ≡ Holds = sound s (c .2) in
     let y : Tiled (map (pieceAt s (headerOf s)) (fragments s)) (a ∷ bs) = rw (c .4) at (tiled s (c .2)) in
     (streamOf s, map-at streamOf ss i s (c .1), (ap good h, c .3, tiles-fewer (map (pieceAt s (headerOf s)) (fragments s)) a bs n y))
 

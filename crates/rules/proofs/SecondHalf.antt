@@ -12,7 +12,7 @@ use lib.Dec.{eqb}
 use borrow.Author.Tests.{eqb-true, eqb-false, eq-eqb}
 use Rattle.rules.specs.Rules.{_then_, must, ofTrack}
 use Rattle.rules.specs.Track.{ruling, fragments, fragmentCount, timescale, boundaries}
-use Rattle.rules.specs.Set.{hdlrAt, mdhdAt, handler, rule25, rule26, rule27, firstOr, rule28From, rule28, agrees, rulings, agree, track0, setRuling}
+use Rattle.rules.specs.Set.{hdlrAt, mdhdAt, handler, same, firstOr, rule28From, rule28, agrees, rulings, agree, track0, setRuling}
 use Rattle.rules.specs.Player.{passed, play}
 use Rattle.rules.specs.Plans.{All, longest, Comparable, OneStuck, TicksDiffer, ToldApart, Singly, OneKind}
 use Rattle.rules.specs.declared.Rule.{Rule}
@@ -57,7 +57,7 @@ itself last (x ∷ xs) ps =
 
 -- a track refused beside track 0 differs from it
 differs : (s₀ s : List ℕ) (n t p : ℕ) → Refusal (agrees s₀ s) n t p → Difference s₀ s n
-unfolding agrees rule25 rule26 rule27 rule28 must _then_
+unfolding agrees same rule28 must _then_
 differs s₀ s n t p h =
     go (eqb (handler s) (handler s₀)) (eqb (timescale s) (timescale s₀)) (eqb (fragmentCount s) (fragmentCount s₀)) refl refl refl h
   where

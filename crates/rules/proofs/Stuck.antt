@@ -10,7 +10,7 @@ use borrow.Author.Tests.{eq-eqb, eqb-true, ne-eqb}
 use Rattle.rules.specs.Boxes.{whole}
 use Rattle.rules.specs.Fragment.{syncIn, durationIn, endOf}
 use Rattle.rules.specs.Track.{headerOf, fragments, fragmentCount, timescale, startAt, endAt}
-use Rattle.rules.specs.Player.{Piece, Stream, State, fedAt, pieceAt, rules1to18, good, streamOf, fits, begin, goes, after, take?, stepOn, stuck, tick, playFrom, firstStart, playStreams, play}
+use Rattle.rules.specs.Player.{Piece, Stream, State, fedAt, pieceAt, rulesBeforeTiming, good, streamOf, fits, begin, goes, after, take?, stepOn, stuck, tick, playFrom, firstStart, playStreams, play}
 use Rattle.rules.specs.declared.Rule.{Rule}
 use Rattle.rules.specs.declared.Rule.the-variants.{Holds, Breaks}
 use Rattle.rules.proofs.Laws.{no-and, all-on, each-on, beyond, map-at, map-none}
@@ -65,8 +65,8 @@ unfolding fragmentCount
 stuck-missing-fragment g s h =
     refuses g s (λ x e. absurd (Option·none-ne-some x (sym (beyond (fragments s) (g .number) h) ∙ e)))
 
--- a track that breaks one of rules 1 to 18: the step is stuck
-pub stuck-broken-rule : (g : State) (s : List ℕ) (n t p : ℕ) → rules1to18 s ≡ Breaks n t p → stepOn g (streamOf s) ≡ none
+-- a track that breaks one of the rules before timing: the step is stuck
+pub stuck-broken-rule : (g : State) (s : List ℕ) (n t p : ℕ) → rulesBeforeTiming s ≡ Breaks n t p → stepOn g (streamOf s) ≡ none
 unfolding goes streamOf pieceAt
 stuck-broken-rule g s n t p h = refuses g s (λ x _. rw h)
 
@@ -124,7 +124,7 @@ fits-unset (some m) n h = eqb-true m n h
 abbrev pub Ready : State → List ℕ → ℕ → Type 0
 Ready g s x =
     Meets g s x
-    × (rules1to18 s ≡ Holds)
+    × (rulesBeforeTiming s ≡ Holds)
     × UnsetOr (g .scale) (timescale s)
     × (syncIn (whole s x) (headerOf s .defaults) ≡ true)
     × UnsetOr (g .clock) (startAt s x)
@@ -133,7 +133,7 @@ Ready g s x =
 -- a step's five tests on the fragment at x of a track
 module _ (g : State) (s : List ℕ) (x : ℕ) where
   abbrev keeps : Bool
-  keeps = good (rules1to18 s)
+  keeps = good (rulesBeforeTiming s)
 
   abbrev scaled : Bool
   scaled = fits (g .scale) (timescale s)
@@ -225,7 +225,7 @@ went-through g s p h = go (getElem? (fragments s) (g .number)) refl
           x,
           (
             e,
-            kept (rules1to18 s) (q .0),
+            kept (rulesBeforeTiming s) (q .0),
             fits-unset (g .scale) (timescale s) (q .1),
             q .2,
             fits-unset (g .clock) (startAt s x) (q .3),

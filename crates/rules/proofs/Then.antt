@@ -1,8 +1,9 @@
 -- Laws of rules in their order: what a broken rule, a rule that holds, and a test come to.
-use mathlib.Core.Path.{_≡_, refl, sym, subst, _∙_}
+use mathlib.Core.Path.{_≡_, refl, sym, ap, subst, _∙_}
 use mathlib.Core.Bool.{Bool, true, false}
-use Prim.Native.Nat.{ℕ}
-use Rattle.rules.specs.Rules.{_then_, must, ofTrack}
+use Prim.Native.Nat.{ℕ, _+_}
+use native.Mathlib.Omega.{arith}
+use Rattle.rules.specs.Rules.{_then_, must, ofTrack, moved}
 use Rattle.rules.specs.declared.Rule.{Rule}
 use Rattle.rules.specs.declared.Rule.the-variants.{Holds, Breaks}
 
@@ -81,3 +82,39 @@ pub of-track : (k : ℕ) (r : Rule) → ofTrack k r ≡ Holds → r ≡ Holds
 unfolding ofTrack
 of-track k Holds e = refl
 of-track k (Breaks n t p) e = absurd (broken e)
+
+-- a rule moved holds where it holds by itself, and only there; where it breaks it breaks under the same number, at the place moved
+pub moved-holds : (b : ℕ) {r : Rule} → r ≡ Holds → moved b r ≡ Holds
+unfolding moved
+moved-holds b e = rw e
+
+pub moved-held : (b : ℕ) (r : Rule) → moved b r ≡ Holds → r ≡ Holds
+unfolding moved
+moved-held b Holds e = refl
+moved-held b (Breaks n t p) e = absurd (broken e)
+
+pub moved-breaks : (b : ℕ) {r : Rule} {n t p : ℕ} → r ≡ Breaks n t p → moved b r ≡ Breaks n t (b + p)
+unfolding moved
+moved-breaks b e = rw e
+
+-- rules in their order may be moved one by one, twice is once by the sum, and by 0 is not at all
+pub moved-then : (b : ℕ) (r q : Rule) → moved b (r then q) ≡ (moved b r then moved b q)
+unfolding moved _then_
+moved-then b Holds q = refl
+moved-then b (Breaks n t p) q = refl
+
+pub moved-moved : (a b : ℕ) (r : Rule) → moved a (moved b r) ≡ moved (a + b) r
+unfolding moved
+moved-moved a b Holds = refl
+moved-moved a b (Breaks n t p) = ap (Breaks n t) (omega arith)
+
+pub moved-by-0 : (r : Rule) → moved 0 r ≡ r
+unfolding moved
+moved-by-0 Holds = refl
+moved-by-0 (Breaks n t p) = ap (Breaks n t) (omega arith)
+
+-- a test moved is the test at the place moved
+pub moved-must : (b : ℕ) (t : Bool) (n p : ℕ) → moved b (must t n p) ≡ must t n (b + p)
+unfolding moved must
+moved-must b true n p = refl
+moved-must b false n p = refl

@@ -13,8 +13,8 @@ use borrow.Author.Tests.{eqb-true}
 use Rattle.numbers.specs.Numbers.{has, signed, isPlace, when}
 use Rattle.rules.specs.Rules.{must}
 use Rattle.rules.specs.Boxes.{headOf, sizeOf, whole}
-use Rattle.rules.specs.Header.{field}
-use Rattle.rules.specs.Fragment.{flagsOf, countOf, bytesOf, sumTo, runBytes, bytesIn, runsIn, defaultsIn, offsetIs, placed, rule22runs, rule22}
+use Rattle.rules.specs.Fields.{field, flagsOf}
+use Rattle.rules.specs.Fragment.{countOf, bytesOf, sumTo, runBytes, bytesIn, runsIn, defaultsIn, offsetIs, placed, rule22runs, rule22}
 use Rattle.rules.specs.Track.{mdatAt}
 use Rattle.rules.specs.Player.{runStart, fedAt}
 use Rattle.rules.specs.declared.Rule.the-variants.{Holds}
@@ -47,18 +47,18 @@ run-start x m first e before r p b = go (has (flagsOf m r) 0x1) p
     go false q = b (not-on first q)
 
 -- runs that rule 22 places, whose sizes end inside the data box: every sample is whole
-tiled-samples : (x base : ℕ) (m : List ℕ) (d : Defaults) (first : Bool) (e : ℕ) (before : ℤ) (next till : ℕ) (rs : List ℕ)
-    → rule22runs base m d first e rs ≡ Holds → next ≡ x + e → (first ≡ false → before ≡ pos (x + e))
+tiled-samples : (x : ℕ) (m : List ℕ) (d : Defaults) (first : Bool) (e : ℕ) (before : ℤ) (next till : ℕ) (rs : List ℕ)
+    → rule22runs m d first e rs ≡ Holds → next ≡ x + e → (first ≡ false → before ≡ pos (x + e))
     → next + bytesIn m d rs ≤ till → EverySample (Whole till) x m d before next rs
 unfolding rule22runs bytesIn runBytes
-tiled-samples x base m d first e before next till [] h n b i = tt
-tiled-samples x base m d first e before next till (r ∷ rs) h n b i = (
+tiled-samples x m d first e before next till [] h n b i = tt
+tiled-samples x m d first e before next till (r ∷ rs) h n b i = (
   λ j l. (
     ap (λ (z : ℤ). z +ℤ pos (sumTo (bytesOf m d r) j)) start,
     omega (arith, i, sum-below (bytesOf m d r) j (countOf m r) l),
   ),
-  tiled-samples x base m d false (e + runBytes m d r) (runStart x m before r +ℤ pos (runBytes m d r)) (next + runBytes m d r) till rs
-      (then-second (must (placed first m r e) 22 (base + r)) (rule22runs base m d false (e + runBytes m d r) rs) h)
+  tiled-samples x m d false (e + runBytes m d r) (runStart x m before r +ℤ pos (runBytes m d r)) (next + runBytes m d r) till rs
+      (then-second (must (placed first m r e) 22 r) (rule22runs m d false (e + runBytes m d r) rs) h)
       (omega arith)
       (λ _. ap (λ (z : ℤ). z +ℤ pos (runBytes m d r)) start ∙ ap pos (omega arith))
       (omega arith),
@@ -67,14 +67,14 @@ tiled-samples x base m d first e before next till (r ∷ rs) h n b i = (
     start : runStart x m before r ≡ pos next
     start =
         run-start x m first e before r
-        (must-holds (placed first m r e) 22 (base + r)
-        (then-first (must (placed first m r e) 22 (base + r)) (rule22runs base m d false (e + runBytes m d r) rs) h))
+        (must-holds (placed first m r e) 22 r
+        (then-first (must (placed first m r e) 22 r) (rule22runs m d false (e + runBytes m d r) rs) h))
         b
         ∙ ap pos (sym n)
 
 -- a fragment that rule 22 accepts feeds the player
 pub fed-at : (s : List ℕ) (h : Header) (x : ℕ)
-    → rule22 x (whole s x) (h .defaults) (headOf s (mdatAt s x)) (sizeOf s (mdatAt s x) - headOf s (mdatAt s x)) ≡ Holds
+    → rule22 (whole s x) (h .defaults) (headOf s (mdatAt s x)) (sizeOf s (mdatAt s x) - headOf s (mdatAt s x)) ≡ Holds
     → DataBox s x → fedAt s h x ≡ true
 unfolding fedAt rule22 mdatAt
 fed-at s h x r b =
@@ -82,11 +82,11 @@ fed-at s h x r b =
     let d = defaultsIn m (h .defaults) in
     let head = headOf s (mdatAt s x) in
     let size = sizeOf s (mdatAt s x) in
-    let first = rule22runs x m d true (length m + head) (runsIn m) in
-    let last = must (eqb (bytesIn m d (runsIn m)) (size - head)) 22 (x + length m) in
+    let first = rule22runs m d true (length m + head) (runsIn m) in
+    let last = must (eqb (bytesIn m d (runsIn m)) (size - head)) 22 (length m) in
     let sum : bytesIn m d (runsIn m) ≡ size - head =
     eqb-true (bytesIn m d (runsIn m)) (size - head)
-    (must-holds (eqb (bytesIn m d (runsIn m)) (size - head)) 22 (x + length m) (then-second first last r)) in
+    (must-holds (eqb (bytesIn m d (runsIn m)) (size - head)) 22 (length m) (then-second first last r)) in
     every-fed x m d (pos x) (mdatAt s x + head) (mdatAt s x + size) (runsIn m)
-    (tiled-samples x x m d true (length m + head) (pos x) (mdatAt s x + head) (mdatAt s x + size) (runsIn m) (then-first first last r)
+    (tiled-samples x m d true (length m + head) (pos x) (mdatAt s x + head) (mdatAt s x + size) (runsIn m) (then-first first last r)
     (omega arith) (λ e. absurd (true≢false e)) (omega (arith, sum, b .1)))

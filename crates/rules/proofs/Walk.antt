@@ -28,7 +28,7 @@ use Rattle.rules.proofs.Forest.{Found, look-found, sprout}
 -- boxes that stand one behind the other from a place on, each with what its header tells
 abbrev pub Siblings : List ℕ → ℕ → List Box → Type 0
 Siblings s at [] = Unit {0}
-Siblings s at (x ∷ xs) = (x .at ≡ at) × Found s at (x .head) (x .size) (x .kind) × Siblings s (at + x .size) xs
+Siblings s at (x ∷ xs) = (x .at ≡ at) × Found s at (x .inner) (x .size) (x .kind) × Siblings s (at + x .size) xs
 
 siblings : (f : ℕ) (p : Path) (s : List ℕ) (at : ℕ) → Siblings s at (tops (grow f p s at))
 unfolding grow tops
@@ -53,7 +53,7 @@ Leads (To g) h = g ≡ h
 Leads Wrong h = ⊥
 
 -- after a `moof` its `mdat` is awaited
-after-moof : (g : Stage) (k : ℕ) (h : Stage) → eqb k moof ≡ true → step6 g k ≡ To h → Halved ≡ h
+pub after-moof : (g : Stage) (k : ℕ) (h : Stage) → eqb k moof ≡ true → step6 g k ≡ To h → Halved ≡ h
 unfolding step6 awaits ordered
 after-moof g k h e q = go g (rw (eqb-true k moof e) at q)
   where
@@ -73,7 +73,7 @@ DataBox s x =
     (kindOf s (mdatAt s x) ≡ mdat) × (headOf s (mdatAt s x) ≤ sizeOf s (mdatAt s x)) × (mdatAt s x + sizeOf s (mdatAt s x) ≤ length s)
 
 -- a `moof`'s data box begins where the `moof` ends
-mdat-at : (s : List ℕ) (x : ℕ) → sizeOf s x ≤ length s - x → mdatAt s x ≡ x + sizeOf s x
+pub mdat-at : (s : List ℕ) (x : ℕ) → sizeOf s x ≤ length s - x → mdatAt s x ≡ x + sizeOf s x
 unfolding mdatAt whole
 mdat-at s x h =
     ap (λ (n : ℕ). x + n)
@@ -87,7 +87,7 @@ unfolding orderFrom step6
 awaited s len at [] y h = absurd (broken h)
 awaited s len at (x ∷ xs) y h = go (eqb (x .kind) mdat) refl h
   where
-    b : Found s at (x .head) (x .size) (x .kind)
+    b : Found s at (x .inner) (x .size) (x .kind)
     b = y .1
 
     go : (t : Bool) → eqb (x .kind) mdat ≡ t
@@ -105,7 +105,7 @@ in-order s len at g [] y h = tt
 in-order s len at g (x ∷ xs) y h =
     go (step6 g (x .kind)) refl h (eqb (x .kind) moof) refl (λ k r. in-order s len (at + x .size) k xs (y .2) r)
   where
-    b : Found s at (x .head) (x .size) (x .kind)
+    b : Found s at (x .inner) (x .size) (x .kind)
     b = y .1
 
     here : orderFrom len Halved xs ≡ Holds → DataBox s (x .at)

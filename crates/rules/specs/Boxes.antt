@@ -1,18 +1,16 @@
--- Boxes in bytes: one header, the forest of boxes in a slice, runs of siblings, and what is seen of a kind among them.
+-- Boxes in bytes: one header, the forest of boxes in a slice, runs of siblings, the boxes in a container.
 use Prim.Native.Nat.{ℕ, zero, suc, _+_, _-_}
 use mathlib.Core.List.{List, [], _∷_}
 use lib.ListN.{length, take, drop}
 use lib.Dec.{ltb, eqb}
 use Rattle.numbers.specs.Numbers.{be4, be8, when}
-use Rattle.rules.specs.Kinds.{moov, moof, trak, mvex, edts, mdia, minf, dinf, stbl, traf, named}
+use Rattle.rules.specs.Kinds.{moov, moof, trak, mvex, edts, mdia, minf, dinf, stbl, traf}
 use Rattle.rules.specs.declared.Path.{Path}
 use Rattle.rules.specs.declared.Path.the-variants.{Top, Moov, Moof, Trak, Mdia, Minf, Flat}
 use Rattle.rules.specs.declared.Inside.{Inside}
 use Rattle.rules.specs.declared.Inside.the-variants.{Leaf, Holds}
 use Rattle.rules.specs.declared.Look.{Look}
 use Rattle.rules.specs.declared.Look.the-variants.{Nothing, Short, Small, Beyond, Header}
-use Rattle.rules.specs.declared.Seen.{Seen}
-use Rattle.rules.specs.declared.Seen.the-variants.{Never, Once, Twice}
 
 -- n bytes of a slice from a place, as many of them as there are
 abbrev pub part : List ℕ → ℕ → ℕ → List ℕ
@@ -53,10 +51,10 @@ inside Mdia k = when (eqb k minf) (Holds Minf) Leaf
 inside Minf k = when (eqb k dinf) (Holds Flat) (when (eqb k stbl) (Holds Flat) Leaf)
 inside Flat k = Leaf
 
--- a box: its place in the slice, its header's length, its whole size, its type
+-- a box: its place in the slice, where its children begin behind that (its header's length), its whole size, its type
 pub record Box : Type 0 where
   pub at : ℕ
-  pub head : ℕ
+  pub inner : ℕ
   pub size : ℕ
   pub kind : ℕ
 
@@ -77,7 +75,7 @@ grow zero p s at = end
 grow (suc f) p s at =
     onLook (look s at) end (λ n. bad n at)
     (λ h z k.
-    node (record { at = at; head = h; size = z; kind = k })
+    node (record { at = at; inner = h; size = z; kind = k })
     (within (λ q t. grow f q t 0) (inside p k) (part s (at + h) (z - h)))
     (grow f p s (at + z)))
 
@@ -95,31 +93,6 @@ tops (node x i r) = x ∷ tops r
 unfoldable pub boxes : List ℕ → ℕ → List Box
 boxes s at = tops (forest Flat s at)
 
--- one more box at a place, after those seen
-abbrev pub again : ℕ → Seen → Seen
-again at Never = Once at
-again at (Once a) = Twice a at
-again at (Twice a b) = Twice a b
-
--- what is seen of a wanted kind among boxes, after what was seen before
-unfoldable pub seenFrom : Seen → ℕ → List Box → Seen
-seenFrom v w [] = v
-seenFrom v w (x ∷ xs) = seenFrom (when (named w (x .kind)) (again (x .at) v) v) w xs
-
--- what is seen of a wanted kind among boxes
-abbrev pub seen : ℕ → List Box → Seen
-seen w xs = seenFrom Never w xs
-
--- a case by what is seen
-abbrev pub onSeen : {A : Type 0} → Seen → A → (ℕ → A) → (ℕ → ℕ → A) → A
-onSeen Never a b c = a
-onSeen (Once x) a b c = b x
-onSeen (Twice x y) a b c = c x y
-
--- the first place seen, 0 where there is none
-abbrev pub firstOf : Seen → ℕ
-firstOf v = onSeen v 0 (λ a. a) (λ a b. a)
-
 -- the places of every box of a type
 unfoldable pub placesOf : ℕ → List Box → List ℕ
 placesOf k [] = []
@@ -135,17 +108,15 @@ sizeOf s at = when (eqb (be4 s at) 1) (be8 s (at + 8)) (be4 s at)
 abbrev pub kindOf : List ℕ → ℕ → ℕ
 kindOf s at = be4 s (at + 4)
 
--- the bytes of the box at a place: whole, and without the header
+-- the bytes of the box at a place, whole
 unfoldable pub whole : List ℕ → ℕ → List ℕ
 whole s at = part s at (sizeOf s at)
 
-unfoldable pub body : List ℕ → ℕ → List ℕ
-body s at = part s (at + headOf s at) (sizeOf s at - headOf s at)
-
--- the boxes in the container at a place
+-- the boxes in the container at a place, at their places in the same slice
 unfoldable pub kids : List ℕ → ℕ → List Box
-kids s at = boxes (body s at) 0
+kids s at = boxes (take (at + sizeOf s at) s) (at + headOf s at)
 
--- the place, in the same slice, of the first wanted box in the container at a place
-unfoldable pub child : List ℕ → ℕ → ℕ → ℕ
-child s at w = at + headOf s at + firstOf (seen w (kids s at))
+-- the mark of this file: its definitions unfold wherever it does
+unfoldable pub computedBoxes : Unit {0}
+unfolding sized lookAt look inside grow forest tops boxes placesOf headOf sizeOf whole kids
+computedBoxes = tt

@@ -68,3 +68,8 @@ tracksOf b (track from n rs) = part b from n ∷ tracksOf b rs
 
 unfoldable pub tracks : List ℕ → List (List ℕ)
 tracks b = tracksOf b (records b)
+
+-- the mark of this file: its definitions unfold wherever it does
+unfoldable pub computedBundle : Unit {0}
+unfolding lengthed markAt recordAt recordsFrom records rule24From rule24 tracksOf tracks
+computedBundle = tt

@@ -77,3 +77,8 @@ single start offset payload = header ++ fragment start offset payload
 -- T, a tick later
 unfoldable pub shifted : List ℕ
 shifted = header ++ fragment 1 108 30 ++ fragment 180001 108 30
+
+-- the mark of this file: its definitions unfold wherever it does
+unfoldable pub computedBytes : Unit {0}
+unfolding in4 in8 zeros boxed headerWith header run moofWith moofOf moofOf8 fragment trackT single shifted
+computedBytes = tt

@@ -103,8 +103,8 @@ recordsOf (suc n) = (0x53 ∷ 0x57 ∷ in4 0) ++ recordsOf n
 unfoldable pub furtherLimits : List (Rule × Rule)
 furtherLimits =
     -- 18: 65,536 samples
-    (rule18 0 (samples 65536), Holds)
-    ∷ (rule18 0 (samples 65537), Breaks 18 0 24)
+    (rule18 (samples 65536), Holds)
+    ∷ (rule18 (samples 65537), Breaks 18 0 24)
     -- 20: an end at tick 2^63 - 1, and one tick later
     ∷ (ruling (startsAt 9223372036854595807), Holds)
     ∷ (ruling (startsAt 9223372036854595808), Breaks 20 0 560)

@@ -1,55 +1,57 @@
--- Rules 14 to 22: one fragment, over the whole bytes of its `moof` (m), which starts at a base in the track, the header length
--- and the payload length of its `mdat`, and a few numbers: what the header tells (the track ID, id; the `trex` defaults, d), how many
--- fragments stand before it (k), and the previous end (prev).
+-- Rules 14 to 22: one fragment, over the whole bytes of its `moof` (m), the header length and the payload length of its `mdat`, and a few
+-- numbers: what the header tells (the track ID, id; the `trex` defaults, d) and the previous end (prev). A place is one in those bytes.
 use Prim.Native.Nat.{ℕ, zero, suc, _+_, _*_}
-use mathlib.Core.List.{List, [], _∷_, map}
-use mathlib.Core.Bool.{Bool, true, false, not, _&&_, _||_}
+use mathlib.Core.List.{List, [], _∷_}
+use mathlib.Core.Bool.{Bool, true, false, not, _&&_}
 use lib.ListN.{length}
 use lib.Dec.{leb, eqb}
-use Rattle.numbers.specs.Numbers.{be3, be8, has, signed, isPlace, when}
+use Rattle.numbers.specs.Numbers.{be8, has, signed, isPlace, when}
 use Rattle.rules.specs.Kinds.{mfhd, traf, tfhd, tfdt, trun}
 use Rattle.rules.specs.Limits.{sampleLimit, tickLimit}
 use Rattle.rules.specs.Rules.{_then_, must}
-use Rattle.rules.specs.Boxes.{headOf, kids, child, seen, placesOf}
-use Rattle.rules.specs.Header.{one, someOf, shortSize, version, field, versioned, plain}
+use Rattle.rules.specs.Boxes.{headOf, kids, placesOf}
+use Rattle.rules.specs.Counts.{firstIn, child, counts}
+use Rattle.rules.specs.Fields.{version, flagsOf, field, Form, either, plain, body}
+use Rattle.rules.specs.declared.Entry.{Entry}
+use Rattle.rules.specs.declared.Entry.the-variants.{One, OneOrMore}
+use Rattle.rules.specs.declared.Previous.{Previous}
+use Rattle.rules.specs.declared.Previous.the-variants.{Unset, End}
 use Rattle.rules.specs.declared.Rule.{Rule}
 use Rattle.rules.specs.declared.Rule.the-variants.{Holds}
 use Rattle.rules.specs.declared.Defaults.{Defaults}
 
+-- 14, `moof`: one `mfhd`, one `traf`
+abbrev pub inMoof : List Entry
+inMoof = One mfhd ∷ One traf ∷ []
+
+-- 14, `traf`: one `tfhd`, one `tfdt`, one or more `trun`
+abbrev pub inTraf : List Entry
+inTraf = One tfhd ∷ One tfdt ∷ OneOrMore trun ∷ []
+
 -- where the fragment's boxes stand in `moof`
-abbrev pub trafIn : List ℕ → ℕ
+unfoldable pub mfhdIn : List ℕ → ℕ
+mfhdIn m = child m 0 mfhd
+
+unfoldable pub trafIn : List ℕ → ℕ
 trafIn m = child m 0 traf
 
-abbrev pub tfhdIn : List ℕ → ℕ
+unfoldable pub tfhdIn : List ℕ → ℕ
 tfhdIn m = child m (trafIn m) tfhd
 
-abbrev pub tfdtIn : List ℕ → ℕ
+unfoldable pub tfdtIn : List ℕ → ℕ
 tfdtIn m = child m (trafIn m) tfdt
 
--- places in a container's body, counted from the container's slice
-unfoldable pub shifted : ℕ → List ℕ → List ℕ
-shifted n ps = map (λ p. n + p) ps
+-- the first `trun`'s place
+unfoldable pub firstRun : List ℕ → ℕ
+firstRun m = firstIn m (trafIn m) (OneOrMore trun)
 
 -- the runs of the fragment: the places of every `trun`, in byte order
 unfoldable pub runsIn : List ℕ → List ℕ
-runsIn m = shifted (trafIn m + headOf m (trafIn m)) (placesOf trun (kids m (trafIn m)))
+runsIn m = placesOf trun (kids m (trafIn m))
 
--- the first `trun`'s place
-abbrev pub firstRun : List ℕ → ℕ
-firstRun m = child m (trafIn m) trun
-
--- 14: `moof`: one `mfhd`, one `traf`. `traf`: one `tfhd`, one `tfdt`, one or more `trun`
-unfoldable pub rule14 : ℕ → List ℕ → Rule
-rule14 base m =
-    one 14 base m 0 mfhd
-    then one 14 base m 0 traf
-    then one 14 base m (trafIn m) tfhd
-    then one 14 base m (trafIn m) tfdt
-    then someOf 14 (base + trafIn m) (seen trun (kids m (trafIn m)))
-
--- the flags of the full box at a place
-unfoldable pub flagsOf : List ℕ → ℕ → ℕ
-flagsOf m at = be3 m (at + headOf m at + 1)
+-- 14, in this order
+unfoldable pub rule14 : List ℕ → Rule
+rule14 m = counts 14 m 0 inMoof then counts 14 m (trafIn m) inTraf
 
 -- n bytes where a flag is set
 unfoldable pub bytesFor : ℕ → ℕ → ℕ → ℕ
@@ -73,39 +75,41 @@ unfoldable pub countOf : List ℕ → ℕ → ℕ
 countOf m r = field m r 4
 
 -- 15, `trun`: version 0 or 1, 16 plus 4 for each of 0x1, 0x4, plus 4 a sample for each of 0x100, 0x200, 0x400, 0x800
-unfoldable pub runSized : List ℕ → ℕ → Bool
-runSized m r =
-    when (leb (version m r) 1) (eqb (shortSize m r) (8 + runHead (flagsOf m r) + stride (flagsOf m r) * countOf m r)) false
+unfoldable pub runSize : List ℕ → ℕ → ℕ
+runSize m r = 8 + runHead (flagsOf m r) + stride (flagsOf m r) * countOf m r
+
+abbrev pub runForm : List ℕ → ℕ → Form
+runForm m r = either (runSize m r) (runSize m r)
 
 -- 15, every `trun`, in byte order
-unfoldable pub rule15runs : ℕ → List ℕ → List ℕ → Rule
-rule15runs base m [] = Holds
-rule15runs base m (r ∷ rs) = must (runSized m r) 15 (base + r) then rule15runs base m rs
+unfoldable pub rule15runs : List ℕ → List ℕ → Rule
+rule15runs m [] = Holds
+rule15runs m (r ∷ rs) = body 15 (runForm m r) m r then rule15runs m rs
 
 -- 15: `mfhd` 16, version 0; `tfhd` version 0, sized by its flags; `tfdt` 16 (version 0) or 20 (version 1); then the runs
-unfoldable pub rule15 : ℕ → List ℕ → Rule
-rule15 base m =
-    must (plain m (child m 0 mfhd) 16) 15 (base + child m 0 mfhd)
-    then must (plain m (tfhdIn m) (tfhdSize (flagsOf m (tfhdIn m)))) 15 (base + tfhdIn m)
-    then must (versioned m (tfdtIn m) 16 20) 15 (base + tfdtIn m)
-    then rule15runs base m (runsIn m)
+unfoldable pub rule15 : List ℕ → Rule
+rule15 m =
+    body 15 (plain 16) m (mfhdIn m)
+    then body 15 (plain (tfhdSize (flagsOf m (tfhdIn m)))) m (tfhdIn m)
+    then body 15 (either 16 20) m (tfdtIn m)
+    then rule15runs m (runsIn m)
 
 -- 16, each `trun`: 0x4 and 0x400 not both
-unfoldable pub rule16runs : ℕ → List ℕ → List ℕ → Rule
-rule16runs base m [] = Holds
-rule16runs base m (r ∷ rs) =
-    must (not (has (flagsOf m r) 0x4 && has (flagsOf m r) 0x400)) 16 (base + r) then rule16runs base m rs
+unfoldable pub rule16runs : List ℕ → List ℕ → Rule
+rule16runs m [] = Holds
+rule16runs m (r ∷ rs) = must (not (has (flagsOf m r) 0x4 && has (flagsOf m r) 0x400)) 16 r then rule16runs m rs
 
--- 16: `tfhd`: 0x1 and 0x10000 clear, 0x20000 set; then each `trun`
-unfoldable pub rule16 : ℕ → List ℕ → Rule
-rule16 base m =
-    must (not (has (flagsOf m (tfhdIn m)) 0x1) && not (has (flagsOf m (tfhdIn m)) 0x10000) && has (flagsOf m (tfhdIn m)) 0x20000)
-    16 (base + tfhdIn m)
-    then rule16runs base m (runsIn m)
+-- 16, `tfhd`: 0x1 and 0x10000 clear, 0x20000 set
+unfoldable pub flagged : ℕ → Bool
+flagged f = not (has f 0x1) && not (has f 0x10000) && has f 0x20000
+
+-- 16: `tfhd`, then each `trun`
+unfoldable pub rule16 : List ℕ → Rule
+rule16 m = must (flagged (flagsOf m (tfhdIn m))) 16 (tfhdIn m) then rule16runs m (runsIn m)
 
 -- 17: `tfhd` track ID differs from `tkhd`
-unfoldable pub rule17 : ℕ → List ℕ → ℕ → Rule
-rule17 base m id = must (eqb (field m (tfhdIn m) 4) id) 17 (base + tfhdIn m)
+unfoldable pub rule17 : List ℕ → ℕ → Rule
+rule17 m id = must (eqb (field m (tfhdIn m) 4) id) 17 (tfhdIn m)
 
 -- the samples of the runs in all
 unfoldable pub samplesOf : List ℕ → List ℕ → ℕ
@@ -113,13 +117,12 @@ samplesOf m [] = 0
 samplesOf m (r ∷ rs) = countOf m r + samplesOf m rs
 
 -- 18: samples in the fragment not 1 to 65,536
-unfoldable pub rule18 : ℕ → List ℕ → Rule
-rule18 base m =
-    must (leb 1 (samplesOf m (runsIn m)) && leb (samplesOf m (runsIn m)) sampleLimit) 18 (base + trafIn m)
+unfoldable pub rule18 : List ℕ → Rule
+rule18 m = must (leb 1 (samplesOf m (runsIn m)) && leb (samplesOf m (runsIn m)) sampleLimit) 18 (trafIn m)
 
 -- 14 to 18: the fragment's shape
-unfoldable pub shape : ℕ → List ℕ → ℕ → Rule
-shape base m id = rule14 base m then rule15 base m then rule16 base m then rule17 base m id then rule18 base m
+unfoldable pub shape : List ℕ → ℕ → Rule
+shape m id = rule14 m then rule15 m then rule16 m then rule17 m id then rule18 m
 
 -- the fragment's start: the `tfdt`
 unfoldable pub startOf : List ℕ → ℕ
@@ -194,17 +197,22 @@ endOf m d = startOf m + durationIn m d
 unfoldable pub syncIn : List ℕ → Defaults → Bool
 syncIn m d = not (has (firstFlags m (defaultsIn m d) (runsIn m)) 0x10000)
 
+-- a start follows the previous end: it is that end, if there is one
+unfoldable pub follows : Previous → ℕ → Bool
+follows Unset start = true
+follows (End e) start = eqb start e
+
 -- 19: not the first fragment, and `tfdt` differs from the previous end
-unfoldable pub rule19 : ℕ → List ℕ → ℕ → ℕ → Rule
-rule19 base m k prev = must (eqb k 0 || eqb (startOf m) prev) 19 (base + tfdtIn m)
+unfoldable pub rule19 : List ℕ → Previous → Rule
+rule19 m prev = must (follows prev (startOf m)) 19 (tfdtIn m)
 
 -- 20: fragment duration 0, or its end over 2^63 - 1
-unfoldable pub rule20 : ℕ → List ℕ → Defaults → Rule
-rule20 base m d = must (leb 1 (durationIn m d) && leb (endOf m d) tickLimit) 20 (base + firstRun m)
+unfoldable pub rule20 : List ℕ → Defaults → Rule
+rule20 m d = must (leb 1 (durationIn m d) && leb (endOf m d) tickLimit) 20 (firstRun m)
 
 -- 21: first sample is non-sync
-unfoldable pub rule21 : ℕ → List ℕ → Defaults → Rule
-rule21 base m d = must (syncIn m d) 21 (base + firstRun m)
+unfoldable pub rule21 : List ℕ → Defaults → Rule
+rule21 m d = must (syncIn m d) 21 (firstRun m)
 
 -- a run's data offset, signed, is the place e
 unfoldable pub offsetIs : List ℕ → ℕ → ℕ → Bool
@@ -215,18 +223,21 @@ unfoldable pub placed : Bool → List ℕ → ℕ → ℕ → Bool
 placed first m r e = when (has (flagsOf m r) 0x1) (offsetIs m r e) (not first)
 
 -- 22, the runs, where the next byte is at the place e after the `moof` start; place: the first wrong run
-unfoldable pub rule22runs : ℕ → List ℕ → Defaults → Bool → ℕ → List ℕ → Rule
-rule22runs base m d first e [] = Holds
-rule22runs base m d first e (r ∷ rs) =
-    must (placed first m r e) 22 (base + r) then rule22runs base m d false (e + runBytes m d r) rs
+unfoldable pub rule22runs : List ℕ → Defaults → Bool → ℕ → List ℕ → Rule
+rule22runs m d first e [] = Holds
+rule22runs m d first e (r ∷ rs) = must (placed first m r e) 22 r then rule22runs m d false (e + runBytes m d r) rs
 
--- 22: the runs' bytes begin behind the `mdat` header and tile its payload; place of the last: `mdat`
-unfoldable pub rule22 : ℕ → List ℕ → Defaults → ℕ → ℕ → Rule
-rule22 base m d head payload =
-    rule22runs base m (defaultsIn m d) true (length m + head) (runsIn m)
-    then must (eqb (bytesIn m (defaultsIn m d) (runsIn m)) payload) 22 (base + length m)
+-- 22: the runs' bytes begin behind the `mdat` header and tile its payload; place of the last: `mdat`, where `moof` ends
+unfoldable pub rule22 : List ℕ → Defaults → ℕ → ℕ → Rule
+rule22 m d head payload =
+    rule22runs m (defaultsIn m d) true (length m + head) (runsIn m)
+    then must (eqb (bytesIn m (defaultsIn m d) (runsIn m)) payload) 22 (length m)
 
 -- 19 to 22: the fragment's timing
-unfoldable pub timing : ℕ → List ℕ → Defaults → ℕ → ℕ → ℕ → ℕ → Rule
-timing base m d head payload k prev =
-    rule19 base m k prev then rule20 base m d then rule21 base m d then rule22 base m d head payload
+unfoldable pub timing : List ℕ → Defaults → ℕ → ℕ → Previous → Rule
+timing m d head payload prev = rule19 m prev then rule20 m d then rule21 m d then rule22 m d head payload
+
+-- the mark of this file: its definitions unfold wherever it does
+unfoldable pub computedFragment : Unit {0}
+unfolding mfhdIn trafIn tfhdIn tfdtIn firstRun runsIn rule14 bytesFor tfhdSize runHead stride countOf runSize rule15runs rule15 rule16runs flagged rule16 rule17 samplesOf rule18 shape startOf defaultsIn sampleAt durationOf bytesOf firstFlagsOf sumTo runDuration runBytes durationsOf bytesIn firstFlags durationIn endOf syncIn follows rule19 rule20 rule21 offsetIs placed rule22runs rule22 timing
+computedFragment = tt

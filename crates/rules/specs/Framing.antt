@@ -26,7 +26,7 @@ framing end base n = Framed n
 framing (bad k p) base n = rule5 n (base + p) (Misframed k (base + p))
 framing (node x i r) base n =
     rule5 n (base + x .at)
-    (onFraming (framing i (base + x .at + x .head) (n + 1)) (λ m. framing r base m) (λ k p. Misframed k p))
+    (onFraming (framing i (base + x .at + x .inner) (n + 1)) (λ m. framing r base m) (λ k p. Misframed k p))
 
 -- a framing as a rule
 abbrev pub framingRule : Framing → Rule
@@ -38,12 +38,17 @@ unfoldable pub rows : Forest → ℕ → ℕ → List ℕ
 rows end base depth = []
 rows (bad k p) base depth = []
 rows (node x i r) base depth =
-    (base + x .at) ∷ x .size ∷ x .kind ∷ depth ∷ (rows i (base + x .at + x .head) (depth + 1) ++ rows r base depth)
+    (base + x .at) ∷ x .size ∷ x .kind ∷ depth ∷ (rows i (base + x .at + x .inner) (depth + 1) ++ rows r base depth)
 
 -- the framing of a whole slice, and its rule
 abbrev pub framed : List ℕ → Framing
 framed s = framing (forest Top s 0) 0 0
 
 -- 2 to 5 of a slice
-abbrev pub rules2to5 : List ℕ → Rule
-rules2to5 s = framingRule (framed s)
+abbrev pub rulesOfFraming : List ℕ → Rule
+rulesOfFraming s = framingRule (framed s)
+
+-- the mark of this file: its definitions unfold wherever it does
+unfoldable pub computedFraming : Unit {0}
+unfolding rule5 framing rows
+computedFraming = tt

@@ -1,10 +1,11 @@
 -- What the contract of a job permits, over any rules that give its outcome, the jobs that it has to shut out, and how a job may answer.
 use Prim.Native.Nat.{ℕ, _≤_, _<_}
-use mathlib.Core.Bool.{false}
+use mathlib.Core.Bool.{true, false}
 use mathlib.Core.List.{List}
 use mathlib.Core.Path.{_≡_}
 use lib.Dec.{eqb}
 use lib.ListN.{length, drop, set, getD}
+use Rattle.rules.specs.Refusals.{member}
 use Rattle.rules.specs.Track.{Outcome, refused, accepted}
 use Rattle.rules.specs.declared.Verdict.{Verdict}
 
@@ -44,8 +45,8 @@ pub record Shown (rules : Job) : Type 0 where
   pub as-long : length other ≡ length good
   pub refuses : eqb (rules bad lent .verdict .number) 0 ≡ false
 
--- an outcome is the acceptance with that count, timescale and numbers, a refusal from 1 to a highest, or 23 where there is no room
-pub data Answered (top count scale : ℕ) (numbers t : List ℕ) (o : Outcome) : Type 0 where
-  is-accepted : length numbers ≤ length t → o ≡ accepted count scale numbers t → Answered top count scale numbers t o
-  is-refused : (n k place : ℕ) → 1 ≤ n → n ≤ top → o ≡ refused n k place t → Answered top count scale numbers t o
-  no-room : length t < length numbers → o ≡ refused 23 0 0 t → Answered top count scale numbers t o
+-- an outcome is the acceptance with that count, timescale and numbers, a refusal under one of a list, or 23 where there is no room
+pub data Answered (refusals : List ℕ) (count scale : ℕ) (numbers t : List ℕ) (o : Outcome) : Type 0 where
+  is-accepted : length numbers ≤ length t → o ≡ accepted count scale numbers t → Answered refusals count scale numbers t o
+  is-refused : (n k place : ℕ) → member n refusals ≡ true → o ≡ refused n k place t → Answered refusals count scale numbers t o
+  no-room : length t < length numbers → o ≡ refused 23 0 0 t → Answered refusals count scale numbers t o

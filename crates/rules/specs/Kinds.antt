@@ -1,8 +1,5 @@
 -- The numbers of box types, brands and handlers, each computed from its four letters.
 use Prim.Native.Nat.{ℕ, _+_, _*_}
-use mathlib.Core.Bool.{Bool, _||_}
-use lib.Dec.{eqb}
-use Rattle.numbers.specs.Numbers.{when}
 
 -- four letters as a number, the first the most significant
 abbrev pub letters : ℕ → ℕ → ℕ → ℕ → ℕ
@@ -118,15 +115,3 @@ soun = letters 0x73 0x6f 0x75 0x6e
 
 abbrev pub subt : ℕ
 subt = letters 0x73 0x75 0x62 0x74
-
--- one of the three media headers
-unfoldable pub isMedia : ℕ → Bool
-isMedia k = eqb k vmhd || eqb k smhd || eqb k sthd
-
--- the want that stands for any of the three media headers; no rule names the type 0
-abbrev pub media : ℕ
-media = 0
-
--- whether a box of type k is wanted by w
-unfoldable pub named : ℕ → ℕ → Bool
-named w k = when (eqb w media) (isMedia k) (eqb k w)

@@ -1,9 +1,12 @@
 pub mod Kinds
 pub mod Limits
+pub mod Refusals
 pub mod Rules
 pub mod Boxes
 pub mod Framing
 pub mod Order
+pub mod Counts
+pub mod Fields
 pub mod Header
 pub mod Fragment
 pub mod Track

@@ -51,3 +51,8 @@ orderFrom len g (x ∷ xs) = onStepped (step6 g (x .kind)) (λ h. orderFrom len 
 -- 6 of a slice
 unfoldable pub rule6 : List ℕ → Rule
 rule6 s = orderFrom (length s) Start (boxes s 0)
+
+-- the mark of this file: its definitions unfold wherever it does
+unfoldable pub computedOrder : Unit {0}
+unfolding ordered awaits step6 orderFrom rule6
+computedOrder = tt

@@ -9,10 +9,10 @@ use lib.IntN.{ℤ, pos, _+ℤ_}
 use Rattle.numbers.specs.Numbers.{has, signed, isPlace, when}
 use Rattle.rules.specs.Rules.{_then_}
 use Rattle.rules.specs.Boxes.{headOf, sizeOf, whole}
-use Rattle.rules.specs.Header.{field}
-use Rattle.rules.specs.Framing.{rules2to5}
+use Rattle.rules.specs.Fields.{field, flagsOf}
+use Rattle.rules.specs.Framing.{rulesOfFraming}
 use Rattle.rules.specs.Order.{rule6}
-use Rattle.rules.specs.Fragment.{flagsOf, countOf, bytesOf, sumTo, runBytes, runsIn, defaultsIn, syncIn}
+use Rattle.rules.specs.Fragment.{countOf, bytesOf, sumTo, runBytes, runsIn, defaultsIn, syncIn}
 use Rattle.rules.specs.Track.{rule1, rulesOfHeader, headerOf, fragments, mdatAt, shapeAt, startAt, endAt, timescale}
 use Rattle.rules.specs.declared.Rule.{Rule}
 use Rattle.rules.specs.declared.Rule.the-variants.{Holds, Breaks}
@@ -70,9 +70,9 @@ shapes s h [] = Holds
 shapes s h (x ∷ xs) = shapeAt s h x then shapes s h xs
 
 -- rules 1 to 18 of a track
-unfoldable pub rules1to18 : List ℕ → Rule
-rules1to18 s =
-    rule1 (length s) then rules2to5 s then rule6 s then rulesOfHeader s then shapes s (headerOf s) (fragments s)
+unfoldable pub rulesBeforeTiming : List ℕ → Rule
+rulesBeforeTiming s =
+    rule1 (length s) then rulesOfFraming s then rule6 s then rulesOfHeader s then shapes s (headerOf s) (fragments s)
 
 -- whether a rule holds
 abbrev pub good : Rule → Bool
@@ -83,7 +83,7 @@ good (Breaks n t p) = false
 unfoldable pub streamOf : List ℕ → Stream
 streamOf s =
     record {
-      sound = good (rules1to18 s);
+      sound = good (rulesBeforeTiming s);
       scale = timescale s;
       pieces = map (pieceAt s (headerOf s)) (fragments s);
     }
@@ -158,3 +158,8 @@ playStreams ts (i ∷ plan) = tick (firstStart ts (i ∷ plan)) (playFrom ts beg
 -- the player on the tracks' bytes
 unfoldable pub play : List (List ℕ) → List ℕ → Played
 play ss plan = playStreams (map streamOf ss) plan
+
+-- the mark of this file: its definitions unfold wherever it does
+unfoldable pub computedPlayer : Unit {0}
+unfolding samplesFed runStart runsFed fedAt pieceAt shapes rulesBeforeTiming streamOf fits begin goes after take? stepOn playFrom firstStart playStreams play
+computedPlayer = tt

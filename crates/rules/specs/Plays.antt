@@ -6,7 +6,7 @@ use Rattle.rules.specs.Kinds.{moof, mfhd, traf, tfhd, tfdt, trun, mdat}
 use Rattle.rules.specs.Bytes.{in4, zeros, boxed, header, run, moofOf, fragment}
 use Rattle.rules.specs.Computed.{computed}
 use Rattle.rules.specs.Track.{ruling}
-use Rattle.rules.specs.Player.{Played, stuck, passed, rules1to18, play}
+use Rattle.rules.specs.Player.{Played, stuck, passed, rulesBeforeTiming, play}
 use Rattle.rules.specs.declared.Rule.the-variants.{Breaks}
 
 -- a `moof` from what its `tfhd` holds, a start and its runs
@@ -47,6 +47,6 @@ unfolding computed moofBy twoRuns emptyFirst spare firstSteps
 first-steps = refl
 
 -- the verdict on that track is 22 at the first `mdat`, though of rules 1 to 18 it is 17 at the second `tfhd` that stops the player
-pub verdict-22-player-17 : (ruling (spare 2) ∷ rules1to18 (spare 2) ∷ []) ≡ (Breaks 22 0 592 ∷ Breaks 17 0 663 ∷ [])
+pub verdict-22-player-17 : (ruling (spare 2) ∷ rulesBeforeTiming (spare 2) ∷ []) ≡ (Breaks 22 0 592 ∷ Breaks 17 0 663 ∷ [])
 unfolding computed moofBy spare
 verdict-22-player-17 = refl

@@ -21,17 +21,9 @@ mdhdAt s = moovAt s + placesIn (moovOf s) .mdhd
 unfoldable pub handler : List ℕ → ℕ
 handler s = headerOf s .handler
 
--- 25: handler differs from track 0
-unfoldable pub rule25 : List ℕ → List ℕ → Rule
-rule25 s₀ s = must (eqb (handler s) (handler s₀)) 25 (hdlrAt s)
-
--- 26: timescale differs from track 0
-unfoldable pub rule26 : List ℕ → List ℕ → Rule
-rule26 s₀ s = must (eqb (timescale s) (timescale s₀)) 26 (mdhdAt s)
-
--- 27: number of fragments differs from track 0
-unfoldable pub rule27 : List ℕ → List ℕ → Rule
-rule27 s₀ s = must (eqb (fragmentCount s) (fragmentCount s₀)) 27 (length s)
+-- rule n: a value is track 0's; place, where the track has it
+unfoldable pub same : ℕ → (List ℕ → ℕ) → (List ℕ → ℕ) → List ℕ → List ℕ → Rule
+same n value place s₀ s = must (eqb (value s) (value s₀)) n (place s)
 
 -- the first place, or another where there is none
 abbrev pub firstOr : ℕ → List ℕ → ℕ
@@ -49,9 +41,13 @@ rule28From last (x ∷ xs) ys ps =
 unfoldable pub rule28 : List ℕ → List ℕ → Rule
 rule28 s₀ s = rule28From 0 (boundaries s₀) (boundaries s) (fragments s)
 
--- 25 to 28 of a track beside track 0
+-- a track beside track 0: handler (25), timescale (26), number of fragments (27), boundaries (28)
 unfoldable pub agrees : List ℕ → List ℕ → Rule
-agrees s₀ s = rule25 s₀ s then rule26 s₀ s then rule27 s₀ s then rule28 s₀ s
+agrees s₀ s =
+    same 25 handler hdlrAt s₀ s
+    then same 26 timescale mdhdAt s₀ s
+    then same 27 fragmentCount length s₀ s
+    then rule28 s₀ s
 
 -- each track by itself, from the k-th on
 unfoldable pub rulings : ℕ → List (List ℕ) → Rule
@@ -82,3 +78,8 @@ setOutcome b t =
     onRule (bundleRuling b)
     (λ _. roomFor (fragmentCount (track0 (tracks b))) (timescale (track0 (tracks b))) (boundaries (track0 (tracks b))) t)
     (λ n k p. refused n k p t)
+
+-- the mark of this file: its definitions unfold wherever it does
+unfoldable pub computedSet : Unit {0}
+unfolding hdlrAt mdhdAt handler same rule28From rule28 agrees rulings agree setRuling bundleRuling setOutcome
+computedSet = tt

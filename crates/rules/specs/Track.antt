@@ -1,18 +1,22 @@
 -- The track: what its bytes say, whether every rule holds, and the outcome of the index job and the track job.
 use Prim.Native.Nat.{ℕ, _+_, _-_}
-use mathlib.Core.List.{List, [], _∷_, _++_}
+use mathlib.Core.List.{List, [], _∷_, _++_, map}
 use lib.ListN.{length, drop}
 use lib.Dec.{leb, ltb}
 use Rattle.numbers.specs.Numbers.{when}
 use Rattle.rules.specs.Kinds.{moov, moof}
 use Rattle.rules.specs.Limits.{byteLimit}
-use Rattle.rules.specs.Rules.{_then_, must, onRule}
-use Rattle.rules.specs.Boxes.{boxes, forest, seen, firstOf, placesOf, headOf, sizeOf, whole}
-use Rattle.rules.specs.Framing.{framed, onFraming, rules2to5, rows}
+use Rattle.rules.specs.Rules.{_then_, must, moved, onRule}
+use Rattle.rules.specs.Boxes.{boxes, forest, placesOf, headOf, sizeOf, whole}
+use Rattle.rules.specs.Counts.{seen, firstOf}
+use Rattle.rules.specs.Framing.{framed, onFraming, rulesOfFraming, rows}
 use Rattle.rules.specs.Order.{rule6}
-use Rattle.rules.specs.Header.{rules7to13, headerIn}
+use Rattle.rules.specs.Header.{headerRules, ftypIn, headerIn}
 use Rattle.rules.specs.Fragment.{shape, timing, startOf, endOf}
 use Rattle.rules.specs.declared.Path.the-variants.{Top}
+use Rattle.rules.specs.declared.Entry.the-variants.{One}
+use Rattle.rules.specs.declared.Previous.{Previous}
+use Rattle.rules.specs.declared.Previous.the-variants.{Unset, End}
 use Rattle.rules.specs.declared.Rule.{Rule}
 use Rattle.rules.specs.declared.Rule.the-variants.{Holds}
 use Rattle.rules.specs.declared.Header.{Header}
@@ -24,7 +28,7 @@ rule1 n = must (leb n byteLimit) 1 0
 
 -- where `moov` stands, and its bytes
 unfoldable pub moovAt : List ℕ → ℕ
-moovAt s = firstOf (seen moov (boxes s 0))
+moovAt s = firstOf 0 (seen (One moov) (boxes s 0))
 
 unfoldable pub moovOf : List ℕ → List ℕ
 moovOf s = whole s (moovAt s)
@@ -50,12 +54,12 @@ mdatAt s x = x + length (whole s x)
 
 -- 14 to 18 of the fragment at x
 unfoldable pub shapeAt : List ℕ → Header → ℕ → Rule
-shapeAt s h x = shape x (whole s x) (h .id)
+shapeAt s h x = moved x (shape (whole s x) (h .id))
 
--- 19 to 22 of the fragment at x, the k-th, after the previous end
-unfoldable pub timingAt : List ℕ → Header → ℕ → ℕ → ℕ → Rule
-timingAt s h k prev x =
-    timing x (whole s x) (h .defaults) (headOf s (mdatAt s x)) (sizeOf s (mdatAt s x) - headOf s (mdatAt s x)) k prev
+-- 19 to 22 of the fragment at x, after the previous end
+unfoldable pub timingAt : List ℕ → Header → Previous → ℕ → Rule
+timingAt s h prev x =
+    moved x (timing (whole s x) (h .defaults) (headOf s (mdatAt s x)) (sizeOf s (mdatAt s x) - headOf s (mdatAt s x)) prev)
 
 -- the fragment at x: its start and its end
 unfoldable pub startAt : List ℕ → ℕ → ℕ
@@ -64,24 +68,24 @@ startAt s x = startOf (whole s x)
 unfoldable pub endAt : List ℕ → Header → ℕ → ℕ
 endAt s h x = endOf (whole s x) (h .defaults)
 
--- 14 to 22, fragment by fragment, from the k-th on
-unfoldable pub rules14to22 : List ℕ → Header → ℕ → ℕ → List ℕ → Rule
-rules14to22 s h k prev [] = Holds
-rules14to22 s h k prev (x ∷ xs) =
-    shapeAt s h x then timingAt s h k prev x then rules14to22 s h (k + 1) (endAt s h x) xs
+-- 14 to 22, fragment by fragment, after the previous end
+unfoldable pub rulesOfFragments : List ℕ → Header → Previous → List ℕ → Rule
+rulesOfFragments s h prev [] = Holds
+rulesOfFragments s h prev (x ∷ xs) =
+    shapeAt s h x then timingAt s h prev x then rulesOfFragments s h (End (endAt s h x)) xs
 
 -- 7 to 13 of a track
 unfoldable pub rulesOfHeader : List ℕ → Rule
-rulesOfHeader s = rules7to13 (moovAt s) (ftypOf s) (moovOf s)
+rulesOfHeader s = headerRules (moovAt s) (ftypIn (ftypOf s)) (moovOf s)
 
 -- every rule of a track but room, in the order in which they are tried
 unfoldable pub ruling : List ℕ → Rule
 ruling s =
     rule1 (length s)
-    then rules2to5 s
+    then rulesOfFraming s
     then rule6 s
     then rulesOfHeader s
-    then rules14to22 s (headerOf s) 0 0 (fragments s)
+    then rulesOfFragments s (headerOf s) Unset (fragments s)
 
 -- the number of fragments, and the timescale
 unfoldable pub fragmentCount : List ℕ → ℕ
@@ -90,14 +94,15 @@ fragmentCount s = length (fragments s)
 unfoldable pub timescale : List ℕ → ℕ
 timescale s = headerOf s .timescale
 
--- the boundaries of fragments at places: each start, and the last end
-unfoldable pub ticksAfter : List ℕ → Header → ℕ → List ℕ → List ℕ
-ticksAfter s h last [] = last ∷ []
-ticksAfter s h last (x ∷ xs) = startAt s x ∷ ticksAfter s h (endAt s h x) xs
+-- the last end of a fragment at x and those after it
+unfoldable pub lastEnd : List ℕ → Header → ℕ → List ℕ → ℕ
+lastEnd s h x [] = endAt s h x
+lastEnd s h x (y ∷ ys) = lastEnd s h y ys
 
+-- the boundaries of fragments at places: each fragment's start, and the last end
 unfoldable pub ticks : List ℕ → Header → List ℕ → List ℕ
 ticks s h [] = []
-ticks s h (x ∷ xs) = startAt s x ∷ ticksAfter s h (endAt s h x) xs
+ticks s h (x ∷ xs) = map (startAt s) (x ∷ xs) ++ (lastEnd s h x xs ∷ [])
 
 unfoldable pub boundaries : List ℕ → List ℕ
 boundaries s = ticks s (headerOf s) (fragments s)
@@ -139,3 +144,8 @@ indexOutcome s t =
 unfoldable pub trackOutcome : List ℕ → List ℕ → Outcome
 trackOutcome s t =
     onRule (ruling s) (λ _. roomFor (fragmentCount s) (timescale s) (boundaries s) t) (λ n k p. refused n k p t)
+
+-- the mark of this file: its definitions unfold wherever it does
+unfoldable pub computedTrack : Unit {0}
+unfolding rule1 moovAt moovOf ftypOf headerOf fragmentsFrom mdatAt shapeAt timingAt startAt endAt rulesOfFragments rulesOfHeader ruling fragmentCount timescale lastEnd ticks boundaries refused accepted roomFor index indexOutcome trackOutcome
+computedTrack = tt

@@ -1,4 +1,8 @@
-// The types that the written rules and the code share. The rules themselves are definitions: see specs/.
+// The types that the written rules and the code share, and how the code puts rules together. The rules themselves are definitions: see specs/.
+ghost use mathlib.Core.Path.{_≡_};
+ghost use Prim.Native.Nat.{_≤_};
+ghost use Rattle.rules.specs.Limits.{byteLimit};
+ghost use Rattle.rules.specs.Rules.{_then_, must, ofTrack, moved, placedUpTo};
 
 // Where a run of boxes stands: at the top, in a container that holds containers, or in any other.
 pub enum Path {
@@ -37,6 +41,27 @@ pub enum Seen {
     Never,
     Once(usize),
     Twice(usize, usize),
+}
+
+// What a container wants of its boxes: none, one of a type, at most one, one or more, or one in all of three types.
+pub enum Entry {
+    Nothing,
+    One(u32),
+    AtMostOne(u32),
+    OneOrMore(u32),
+    OneInAll(u32, u32, u32),
+}
+
+// What `ftyp` tells: whether `cmfc` or `cmf2` is among its compatible brands, or that its body is wrong.
+pub enum Ftyp {
+    Branded(bool),
+    Wrong,
+}
+
+// The end of the fragment before: unset before the first.
+pub enum Previous {
+    Unset,
+    End(u64),
 }
 
 // A stage of rule 6: what the top level has read so far.
@@ -104,4 +129,74 @@ pub struct Verdict {
     pub place: u64,
     pub count: u64,
     pub timescale: u64,
+}
+
+// A test that must hold, with the number and the place of its refusal.
+pub fn must(ok: bool, number: u64, place: u64) -> Rule
+    ensures { λ r. ⌜ r ≡ must ok number place ⌝ }
+{
+    if ok {
+        Rule::Holds
+    } else {
+        Rule::Breaks {
+            number,
+            track: 0,
+            place,
+        }
+    }
+}
+
+// The first rule if it breaks, else the second.
+pub fn first_broken(first: Rule, second: Rule) -> Rule
+    ensures { λ r. ⌜ r ≡ (first then second) ⌝ }
+{
+    match first {
+        Rule::Holds => second,
+        Rule::Breaks {
+            number,
+            track,
+            place,
+        } => Rule::Breaks {
+            number,
+            track,
+            place,
+        },
+    }
+}
+
+// A track's rule as track k of a set.
+pub fn of_track(k: u64, rule: Rule) -> Rule
+    ensures { λ r. ⌜ r ≡ ofTrack k rule ⌝ }
+{
+    match rule {
+        Rule::Holds => Rule::Holds,
+        Rule::Breaks {
+            number,
+            track: _,
+            place,
+        } => Rule::Breaks {
+            number,
+            track: k,
+            place,
+        },
+    }
+}
+
+// A rule over the bytes of a box, moved to where the box stands.
+pub fn moved(base: usize, rule: Rule) -> Rule
+    requires { ⌜ (base ≤ byteLimit) × placedUpTo byteLimit rule ⌝ }
+    ensures { λ r. ⌜ r ≡ moved base rule ⌝ }
+{
+    match rule {
+        Rule::Holds => Rule::Holds,
+        Rule::Breaks {
+            number,
+            track,
+            place,
+        } => Rule::Breaks {
+            number,
+            track,
+            place: base as u64 + place,
+        },
+    }
 }

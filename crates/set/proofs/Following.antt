@@ -84,7 +84,7 @@ module _ (b s₀ : List ℕ) {from at k : ℕ} {sofar : Rule} (g : Going b s₀ 
     step = g .rule ∙ ap (λ (ss : List (List ℕ)). rulings k ss then (sofar then agree s₀ k ss)) e
 
     -- the track breaks a rule by itself
-    pub going-breaks : {n p : ℕ} → ruling s ≡ Breaks n 0 p → Breaks n k p ≡ allOf b s₀ from
+    pub going-breaks : {n t p : ℕ} → ruling s ≡ Breaks n t p → Breaks n k p ≡ allOf b s₀ from
     unfolding ofTrack
     going-breaks f = sym (step ∙ then-breaks _ (then-breaks _ (ap (ofTrack k) f)))
 

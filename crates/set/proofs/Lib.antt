@@ -1,5 +1,4 @@
 pub mod Beside
-pub mod Comparing
 pub mod Following
 pub mod Outcomes
 pub mod Unique

@@ -62,7 +62,7 @@ module _ (b t : List ℕ) where
             ∙ then-assoc (ofTrack 0 (ruling s₀)) (rulings 1 (restOf b 1 from)) (agree s₀ 1 (restOf b 1 from))
 
         -- the first track breaks a rule by itself
-        pub first-breaks : {n p : ℕ} → ruling s₀ ≡ Breaks n 0 p → refused n 0 p t ≡ setOutcome b t
+        pub first-breaks : {n k p : ℕ} → ruling s₀ ≡ Breaks n k p → refused n 0 p t ≡ setOutcome b t
         unfolding setOutcome ofTrack
         first-breaks g = rw (tracks-rule ∙ then-breaks _ (ap (ofTrack 0) g))
 

@@ -1,116 +1,92 @@
 // Rules 25 to 28: a track beside track 0.
 ghost use mathlib.Core.Path.{_≡_};
-ghost use mathlib.Core.List.{[], _∷_, _++_};
 ghost use Prim.Native.Nat.{_≤_};
-ghost use lib.ListN.{length, take};
-ghost use Rattle.rules.specs.Track.{fragments, fragmentCount, boundaries};
-ghost use Rattle.rules.specs.Set.{rule28From, rule28, agrees};
-ghost use Rattle.rules.specs.declared.Rule.the-variants.{Breaks};
-ghost use Rattle.track.specs.Says.{lastEnd, Known, Kept};
-ghost use Rattle.set.specs.Says.{tick28};
-use boxes::Next;
-use boxes::kinds::MOOF;
+ghost use lib.ListN.{length};
+ghost use Rattle.rules.specs.Limits.{byteLimit};
+ghost use Rattle.rules.specs.Track.{fragmentCount};
+ghost use Rattle.rules.specs.Set.{rule28, agrees};
+ghost use Rattle.track.specs.Course.{endOfTrack, Known};
+ghost use Rattle.set.specs.Says.{sameEnd, threeOf};
+use rules::Previous;
 use rules::Rule;
-use track::Facts;
+use rules::first_broken;
+use rules::must;
+use track::TrackFacts;
+use track::cursor::Cursor;
+use track::cursor::next_fragment;
 
-// A rule broken at a place of the track.
-fn breaks(number: u64, place: u64) -> Rule
-    ensures { λ r. ⌜ r ≡ Breaks number 0 place ⌝ }
+// Whether two tracks end alike: at the same tick, or neither has a fragment.
+fn same_end(end0: Previous, end: Previous) -> bool
+    ensures { λ r. ⌜ r ≡ sameEnd end0 end ⌝ }
 {
-    Rule::Breaks {
-        number,
-        track: 0,
-        place,
+    match end0 {
+        Previous::Unset => match end {
+            Previous::Unset => true,
+            Previous::End(_) => false,
+        },
+        Previous::End(a) => match end {
+            Previous::Unset => false,
+            Previous::End(b) => b == a,
+        },
     }
 }
 
-// Rule 28 at one boundary.
-fn tick28(first: u64, tick: u64, place: usize) -> Rule
-    ensures { λ r. ⌜ r ≡ tick28 first tick place ⌝ }
-{
-    if tick == first {
-        return Rule::Holds;
-    }
-    breaks(28, place as u64)
-}
-
-// Rule 28: both tracks' boundaries side by side; each is the start of a fragment, the last one an end.
-fn same_boundaries(s0: &[u8], last0: u64, s: &[u8], last: u64) -> Rule
-    requires { ⌜ (last0 ≡ lastEnd (now s0)) × (last ≡ lastEnd (now s)) ⌝ }
-    requires { ⌜ (fragmentCount (now s) ≡ fragmentCount (now s0)) × (1 ≤ fragmentCount (now s)) ⌝ }
+// Rule 28: both tracks' fragments side by side; each boundary is the start of a fragment, the last one an end.
+fn same_boundaries(s0: &[u8], end0: Previous, s: &[u8], end: Previous) -> Rule
+    requires { ⌜ (length (now s0) ≤ byteLimit) × (length (now s) ≤ byteLimit) ⌝ }
+    requires { ⌜ (end0 ≡ endOfTrack (now s0)) × (end ≡ endOfTrack (now s)) × (fragmentCount (now s) ≡ fragmentCount (now s0)) ⌝ }
     ensures { λ r. ⌜ r ≡ rule28 (now (s0 .entry)) (now (s .entry)) ⌝ }
 {
     let mut at0: usize = 0;
     let mut at: usize = 0;
-    let mut place: usize = 0;
+    let mut last: usize = 0;
     loop {
-        let found0 = boxes::next_of(s0, at0, MOOF);
-        let Next::At {
-            place: p0,
-            next: q0,
-        } = found0
+        let c0 = next_fragment(s0, at0);
+        let Cursor::At {
+            next: next0,
+            start: start0,
+            ..
+        } = c0
         else {
-            return tick28(last0, last, place);
+            return must(same_end(end0, end), 28, last as u64);
         };
-        let found = boxes::next_of(s, at, MOOF);
-        let Next::At { place: p, next: q } = found else {
-            return Rule::Holds;
+        let c = next_fragment(s, at);
+        let Cursor::At { place, next, start } = c else {
+            return must(same_end(end0, end), 28, last as u64);
         };
-        let start0 = fragment::start_of(fields::whole(s0, p0));
-        let start = fragment::start_of(fields::whole(s, p));
         if start != start0 {
-            return breaks(28, p as u64);
+            return must(false, 28, place as u64);
         }
-        place = p;
-        at0 = q0;
-        at = q;
+        last = place;
+        at0 = next0;
+        at = next;
     }
 }
 
-// The same by the starts that were kept of both: only the track is walked, for the place.
-fn same_starts(starts0: &[u64], last0: u64, s: &[u8], starts: &[u64], last: u64, n: usize) -> Rule
-    requires { ⌜ (n ≡ fragmentCount (now s)) × (1 ≤ n) × (n ≤ length (now starts0)) × (n ≤ length (now starts)) ⌝ }
-    requires { ⌜ (last ≡ lastEnd (now s)) × Kept (now s) (now starts) ⌝ }
-    ensures { λ r. ⌜ r ≡ rule28From 0 (take n (now (starts0 .entry)) ++ last0 ∷ []) (boundaries (now (s .entry))) (fragments (now (s .entry))) ⌝ }
+// Rules 25 to 27: handler, timescale and number of fragments are track 0's.
+fn same_facts(s: &[u8], f0: TrackFacts, f: TrackFacts) -> Rule
+    ensures { λ r. ⌜ r ≡ threeOf f0 f (length (now (s .entry))) ⌝ }
 {
-    let mut k: usize = 0;
-    let mut at: usize = 0;
-    let mut place: usize = 0;
-    while k < n {
-        let found = boxes::next_of(s, at, MOOF);
-        let Next::At { place: p, next: q } = found else {
-            return Rule::Holds;
-        };
-        if starts[k] != starts0[k] {
-            return breaks(28, p as u64);
-        }
-        place = p;
-        at = q;
-        k += 1;
-    }
-    tick28(last0, last, place)
+    let h0 = f0.header;
+    let h = f.header;
+    let rule25 = must(h.handler == h0.handler, 25, f.hdlr);
+    let rule26 = must(h.timescale == h0.timescale, 26, f.mdhd);
+    let rule27 = must(f.fragments == f0.fragments, 27, s.len() as u64);
+    first_broken(rule25, first_broken(rule26, rule27))
 }
 
-// Rules 25 to 28 of a track beside track 0, both accepted by themselves; 28 by the starts that were kept, if there was room for all.
-pub fn agrees(s0: &[u8], starts0: &[u64], f0: Facts, s: &[u8], starts: &[u64], f: Facts) -> Rule
-    requires { ⌜ Known (now s0) f0 × Kept (now s0) (now starts0) ⌝ }
-    requires { ⌜ Known (now s) f × Kept (now s) (now starts) ⌝ }
+// Rules 25 to 28 of a track beside track 0, both accepted by themselves.
+pub fn agrees(s0: &[u8], f0: TrackFacts, s: &[u8], f: TrackFacts) -> Rule
+    requires { ⌜ Known (now s0) f0 × Known (now s) f ⌝ }
     ensures { λ r. ⌜ r ≡ agrees (now (s0 .entry)) (now (s .entry)) ⌝ }
 {
-    if f.handler != f0.handler {
-        return breaks(25, f.hdlr);
-    }
-    if f.timescale != f0.timescale {
-        return breaks(26, f.mdhd);
-    }
-    if f.fragments != f0.fragments {
-        return breaks(27, s.len() as u64);
-    }
-    let n = f.fragments as usize;
-    if n <= starts0.len() {
-        if n <= starts.len() {
-            return same_starts(starts0, f0.last, s, starts, f.last, n);
+    let facts = same_facts(s, f0, f);
+    match facts {
+        Rule::Breaks { .. } => facts,
+        Rule::Holds => {
+            let end0 = f0.end;
+            let end = f.end;
+            same_boundaries(s0, end0, s, end)
         }
     }
-    same_boundaries(s0, f0.last, s, f.last)
 }

@@ -8,76 +8,38 @@ ghost use Rattle.rules.specs.Bundle.{rule24, tracks};
 ghost use Rattle.rules.specs.Set.{agrees, setOutcome};
 ghost use Rattle.rules.specs.Jobs.{Permits};
 ghost use Rattle.rules.specs.declared.Rule.the-variants.{Holds};
-ghost use Rattle.track.specs.Says.{Known, Kept};
+ghost use Rattle.track.specs.Course.{Known};
 ghost use Rattle.set.specs.Says.{allOf};
 use bundle::Bundled;
 use framing::BYTE_LIMIT;
 use rules::Mark;
 use rules::Rule;
 use rules::Verdict;
-use track::Facts;
 use track::Judged;
-use track::START_ROOM;
+use track::TrackFacts;
 
 pub mod agree;
 
 // What was broken before a track, else what it breaks beside track 0.
-fn also(
-    sofar: Rule,
-    k: u64,
-    s0: &[u8],
-    starts0: &[u64],
-    f0: Facts,
-    s: &[u8],
-    starts: &[u64],
-    f: Facts,
-) -> Rule
-    requires { ⌜ Known (now s0) f0 × Kept (now s0) (now starts0) ⌝ }
-    requires { ⌜ Known (now s) f × Kept (now s) (now starts) ⌝ }
+fn also(sofar: Rule, k: u64, s0: &[u8], f0: TrackFacts, s: &[u8], f: TrackFacts) -> Rule
+    requires { ⌜ Known (now s0) f0 × Known (now s) f ⌝ }
     ensures { λ r. ⌜ r ≡ (sofar then ofTrack k (agrees (now (s0 .entry)) (now (s .entry)))) ⌝ }
 {
     match sofar {
-        Rule::Breaks {
-            number,
-            track,
-            place,
-        } => Rule::Breaks {
-            number,
-            track,
-            place,
-        },
-        Rule::Holds => numbered(k, agree::agrees(s0, starts0, f0, s, starts, f)),
-    }
-}
-
-// A track's rule as track k of the set.
-fn numbered(k: u64, r: Rule) -> Rule
-    ensures { λ q. ⌜ q ≡ ofTrack k r ⌝ }
-{
-    match r {
-        Rule::Holds => Rule::Holds,
-        Rule::Breaks {
-            number,
-            track: _,
-            place,
-        } => Rule::Breaks {
-            number,
-            track: k,
-            place,
-        },
+        Rule::Breaks { .. } => sofar,
+        Rule::Holds => rules::of_track(k, agree::agrees(s0, f0, s, f)),
     }
 }
 
 // The tracks after track 0, from a place of the bundle on: each by itself, then each beside track 0.
-fn others(b: &[u8], from: usize, s0: &[u8], starts0: &[u64], f0: Facts) -> Rule
-    requires { ⌜ Known (now s0) f0 × Kept (now s0) (now starts0) ⌝ }
+fn others(b: &[u8], from: usize, s0: &[u8], f0: TrackFacts) -> Rule
+    requires { ⌜ Known (now s0) f0 ⌝ }
     requires { ⌜ from ≤ length (now b) ⌝ }
     ensures { λ r. ⌜ r ≡ allOf (now (b .entry)) (now (s0 .entry)) from ⌝ }
 {
     let mut at = from;
     let mut k: u64 = 1;
     let mut sofar = Rule::Holds;
-    let mut starts = [0u64; START_ROOM];
     while k < bundle::RECORD_LIMIT {
         let mark = bundle::record_at(b, at);
         let Mark::Track(n) = mark else {
@@ -86,8 +48,8 @@ fn others(b: &[u8], from: usize, s0: &[u8], starts0: &[u64], f0: Facts) -> Rule
         let a = at + 6;
         let e = a + n;
         let s = &b[a..e];
-        match track::judge(s, &mut starts) {
-            Judged::Refused { number, place } => {
+        match track::judge(s) {
+            Judged::Refused { number, place, .. } => {
                 return Rule::Breaks {
                     number,
                     track: k,
@@ -95,7 +57,7 @@ fn others(b: &[u8], from: usize, s0: &[u8], starts0: &[u64], f0: Facts) -> Rule
                 };
             }
             Judged::Accepted(f) => {
-                sofar = also(sofar, k, s0, starts0, f0, s, &starts, f);
+                sofar = also(sofar, k, s0, f0, s, f);
                 at = e;
                 k += 1;
             }
@@ -116,16 +78,15 @@ fn members(b: &[u8], t: &mut [u64]) -> Verdict
     let a = 6;
     let e = a + n;
     let s0 = &b[a..e];
-    let mut starts0 = [0u64; START_ROOM];
-    match track::judge(s0, &mut starts0) {
-        Judged::Refused { number, place } => track::refused(number, 0, place),
-        Judged::Accepted(f0) => match others(b, e, s0, &starts0, f0) {
+    match track::judge(s0) {
+        Judged::Refused { number, place, .. } => track::refused(number, 0, place),
+        Judged::Accepted(f0) => match others(b, e, s0, f0) {
             Rule::Breaks {
                 number,
                 track,
                 place,
             } => track::refused(number, track, place),
-            Rule::Holds => track::accept(s0, f0, &starts0, t),
+            Rule::Holds => track::accept(s0, f0, t),
         },
     }
 }

@@ -1,111 +1,78 @@
--- Laws of the stages: where `moov` stands, and that a good order has a fragment.
-use mathlib.Core.Path.{_≡_, refl, sym, ap, _∙_}
+-- Laws of the walk along the top level: what is left of framing and of the course, and what the whole comes to.
+use mathlib.Core.Path.{_≡_, refl, sym, ap, ap₂, _∙_}
 use mathlib.Core.List.{List, [], _∷_}
-use mathlib.Core.Bool.{Bool, true, false}
-use Prim.Native.Nat.{ℕ, _≤_}
+use Prim.Native.Nat.{ℕ, _+_, _≤_, _<_}
 use native.Mathlib.Omega.{arith}
 use lib.ListN.{length}
-use lib.Dec.{eqb}
-use Rattle.numbers.specs.Numbers.{when}
-use Rattle.rules.specs.Kinds.{moov, moof, named}
-use Rattle.rules.specs.Boxes.{Box, boxes, placesOf, seen, seenFrom, again, firstOf}
-use Rattle.rules.specs.Order.{step6, awaits, ordered, complete, orderFrom, onStepped, rule6}
-use Rattle.rules.specs.Track.{fragmentsFrom, fragmentCount, moovAt}
-use Rattle.rules.specs.declared.Seen.{Seen}
-use Rattle.rules.specs.declared.Seen.the-variants.{Never, Once, Twice}
-use Rattle.rules.specs.declared.Stage.{Stage}
-use Rattle.rules.specs.declared.Stage.the-variants.{Start, Typed, Headed}
-use Rattle.rules.specs.declared.Stepped.{Stepped}
-use Rattle.rules.specs.declared.Stepped.the-variants.{To, Wrong}
+use borrow.Author.Tests.{le-leb, lt-leb}
+use Rattle.rules.specs.Limits.{byteLimit}
+use Rattle.rules.specs.Rules.{_then_}
+use Rattle.rules.specs.Boxes.{Box, look, boxes, forest}
+use Rattle.rules.specs.Framing.{framing, framed, framingRule, rulesOfFraming}
+use Rattle.rules.specs.Order.{rule6}
+use Rattle.rules.specs.Track.{rule1, rulesOfHeader, headerOf, rulesOfFragments, fragments, ruling}
+use Rattle.rules.specs.declared.Framing.{Framing}
+use Rattle.rules.specs.declared.Framing.the-variants.{Framed, Misframed}
+use Rattle.rules.specs.declared.Look.the-variants.{Header}
+use Rattle.rules.specs.declared.Path.the-variants.{Top}
+use Rattle.rules.specs.declared.Previous.the-variants.{Unset}
+use Rattle.rules.specs.declared.Rule.{Rule}
 use Rattle.rules.specs.declared.Rule.the-variants.{Holds, Breaks}
+use Rattle.rules.proofs.Forest.{Found, look-found, boxes-box}
+use Rattle.rules.proofs.Then.{then-holds, then-breaks, must-true, must-false}
+use Rattle.boxes.proofs.Stands.{stands-here}
+use Rattle.track.specs.Course.{judgedBy, after, courseFrom, ended, courseOf, factsOf, judgement, Fits}
+use Rattle.track.specs.declared.Judged.{Judged}
+use Rattle.track.specs.declared.Judged.the-variants.{Refused}
+use Rattle.track.specs.declared.course.Course.{Course}
+use Rattle.track.specs.declared.course.Course.the-variants.{Start}
+use Rattle.track.proofs.OnePass.{one-pass}
+use Rattle.track.proofs.Stepping.{judged-breaks, fits-after}
 
--- something was seen, and a was first
-data Since (a : ℕ) : Seen → Type 0 where
-  once : Since a (Once a)
-  twice : {b : ℕ} → Since a (Twice a b)
+-- the walk stands at a place, after n boxes, with a course: the whole comes to what is left
+pub record Going (s : List ℕ) (at n : ℕ) (c : Course) : Type 0 where
+  pub framing : framed s ≡ framing (forest Top s at) 0 n
+  pub course : courseFrom s Start (boxes s 0) ≡ courseFrom s c (boxes s at)
+  pub fits : Fits s c at
+  pub inner : at ≤ length s
 
-since-again : {a : ℕ} {v : Seen} (t : Bool) (at : ℕ) → Since a v → Since a (when t (again at v) v)
-since-again true at once = twice
-since-again true at twice = twice
-since-again false at i = i
+pub going-begins : (s : List ℕ) → Going s 0 0 Start
+going-begins s = record { framing = refl; course = refl; fits = tt; inner = omega arith }
 
-since-first : {a : ℕ} {v : Seen} → Since a v → firstOf v ≡ a
-since-first once = refl
-since-first twice = refl
+-- over the byte limit
+pub too-long : (s : List ℕ) → byteLimit < length s → Refused 1 0 0 ≡ judgement s
+unfolding judgement ruling rule1
+too-long s h = sym (judged-breaks (factsOf s) (then-breaks _ (must-false 1 0 (lt-leb (length s) byteLimit h))))
 
--- what was seen first stays first
-first-stays : {a : ℕ} {v : Seen} (w : ℕ) (xs : List Box) → Since a v → firstOf (seenFrom v w xs) ≡ a
-unfolding seenFrom
-first-stays w [] i = since-first i
-first-stays w (x ∷ xs) i = first-stays w xs (since-again (named w (x .kind)) (x .at) i)
+module _ (s : List ℕ) {at n : ℕ} {c : Course} (g : Going s at n c) where
+  -- a box
+  pub going-on : {h z k m : ℕ} → framing (forest Top s at) 0 n ≡ framing (forest Top s (at + z)) 0 m → look s at ≡ Header h z k
+      → Going s (at + z) m (after s c (record { at = at; inner = h; size = z; kind = k }))
+  unfolding courseFrom
+  going-on {h} {z} {k} e l =
+      let x : Box = record { at = at; inner = h; size = z; kind = k } in
+      record {
+        framing = g .framing ∙ e;
+        course = g .course ∙ ap (courseFrom s c) (boxes-box s at h z k l);
+        fits = fits-after s x (stands-here (look-found s at h z k l)) c (g .fits);
+        inner = look-found s at h z k l .fits;
+      }
 
--- the first place of a list, 0 where there is none
-abbrev headOr0 : List ℕ → ℕ
-headOr0 [] = 0
-headOr0 (p ∷ ps) = p
+  module _ (h : length s ≤ byteLimit) where
+    short : rule1 (length s) ≡ Holds
+    unfolding rule1
+    short = must-true 1 0 (le-leb (length s) byteLimit h)
 
--- what is seen first is the first of the places
-first-place : (xs : List Box) → firstOf (seen moov xs) ≡ headOr0 (placesOf moov xs)
-unfolding seenFrom placesOf named
-first-place [] = refl
-first-place (x ∷ xs) =
-    let b : (t : Bool) → firstOf (seenFrom (when t (Once (x .at)) Never) moov xs) ≡ headOr0 (when t (x .at ∷ placesOf moov xs) (placesOf moov xs))
-    = elim [ true ↦ first-stays moov xs once | false ↦ first-place xs ] in
-    b (eqb (x .kind) moov)
+    -- no box is left
+    pub going-ends : framing (forest Top s at) 0 n ≡ Framed n → boxes s at ≡ [] → {r : Judged} → r ≡ ended (length s) c → r ≡ judgement s
+    unfolding courseFrom courseOf judgement ruling
+    going-ends e l w =
+        w
+        ∙ ap (ended (length s)) (sym (g .course ∙ ap (courseFrom s c) l))
+        ∙ one-pass s
+        ∙ ap (λ (r : Rule). judgedBy r (factsOf s)) (sym (then-holds _ short ∙ then-holds _ (ap framingRule (g .framing ∙ e))))
 
-pub moov-first : (s : List ℕ) {p : ℕ} {ps : List ℕ} → placesOf moov (boxes s 0) ≡ p ∷ ps → p ≡ moovAt s
-unfolding moovAt
-moov-first s e = sym (first-place (boxes s 0) ∙ ap headOr0 e)
-
-pub moov-none : (s : List ℕ) → placesOf moov (boxes s 0) ≡ [] → 0 ≡ moovAt s
-unfolding moovAt
-moov-none s e = sym (first-place (boxes s 0) ∙ ap headOr0 e)
-
--- a stage before the first fragment
-data Early : Stage → Type 0 where
-  start : Early Start
-  typed : Early Typed
-  headed : Early Headed
-
--- a step from such a stage, by a box that is no `moof`, leads to such a stage or is wrong
-data Stays : Stepped → Type 0 where
-  to : {g : Stage} → Early g → Stays (To g)
-  wrong : Stays Wrong
-
-awaits-stays : (w : ℕ) {g g′ : Stage} (k : ℕ) → Early g → Early g′ → Stays (awaits w g g′ k)
-unfolding awaits
-awaits-stays w {g} {g′} k a b =
-    let by : (t u : Bool) → Stays (when t (To g) (when u Wrong (To g′)))
-    = elim [ true ↦ λ u. to a | false ↦ elim [ true ↦ wrong | false ↦ to b ] ] in
-    by (eqb k w) (ordered k)
-
-early-stays : {g : Stage} (k : ℕ) → Early g → eqb k moof ≡ false → Stays (step6 g k)
-unfolding step6 awaits
-early-stays k start e =
-    let by : (t : Bool) → Stays (when t (To Typed) Wrong) = elim [ true ↦ to typed | false ↦ wrong ] in
-    by (eqb k Rattle.rules.specs.Kinds.ftyp)
-early-stays k typed e = awaits-stays moov k headed typed
-early-stays k headed e =
-    let by : (u : Bool) → Stays (when u Wrong (To Headed)) = elim [ true ↦ wrong | false ↦ to headed ] in
-    rw e (by (ordered k))
-
--- such a stage doesn't complete
-early-incomplete : {g : Stage} (len : ℕ) → Early g → complete g (Breaks 6 0 len) ≡ Holds → ⊥
-early-incomplete len start e = let z : _≡_ {A = ℕ} 0 1 = cc in omega arith
-early-incomplete len typed e = let z : _≡_ {A = ℕ} 0 1 = cc in omega arith
-early-incomplete len headed e = let z : _≡_ {A = ℕ} 0 1 = cc in omega arith
-
--- a good order has a fragment
-order-fragment : (len : ℕ) {g : Stage} (xs : List Box) → Early g → orderFrom len g xs ≡ Holds → 1 ≤ length (placesOf moof xs)
-unfolding orderFrom placesOf
-order-fragment len [] i e = absurd (early-incomplete len i e)
-order-fragment len {g} (x ∷ xs) i e =
-    let went : (t : Stepped) → Stays t → onStepped t (λ h. orderFrom len h xs) (Breaks 6 0 (x .at)) ≡ Holds → 1 ≤ length (placesOf moof xs)
-    = λ t. elim [ to j ↦ λ f. order-fragment len xs j f | wrong ↦ λ f. let z : _≡_ {A = ℕ} 0 1 = cc in omega arith ] in
-    let by : (t : Bool) → eqb (x .kind) moof ≡ t → 1 ≤ length (when t (x .at ∷ placesOf moof xs) (placesOf moof xs))
-    = elim [ true ↦ λ f. omega arith | false ↦ λ f. went (step6 g (x .kind)) (early-stays (x .kind) i f) e ] in
-    by (eqb (x .kind) moof) refl
-
-pub some-fragment : (s : List ℕ) → rule6 s ≡ Holds → 1 ≤ fragmentCount s
-unfolding rule6 fragmentCount fragmentsFrom
-some-fragment s e = order-fragment (length s) (boxes s 0) start e
+    -- a box is misframed
+    pub going-breaks : {k p : ℕ} → framing (forest Top s at) 0 n ≡ Misframed k p → Refused k 0 p ≡ judgement s
+    unfolding judgement ruling
+    going-breaks e = sym (judged-breaks (factsOf s) (then-holds _ short ∙ then-breaks _ (ap framingRule (g .framing ∙ e))))

@@ -1,7 +1,8 @@
-pub mod Rule6
-pub mod Fragments
+pub mod OnePass
+pub mod OwnBytes
+pub mod Stepping
 pub mod Judging
-pub mod Stages
+pub mod Fragments
 pub mod Table
 pub mod Unique
 pub mod Dummies

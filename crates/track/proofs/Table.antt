@@ -1,156 +1,126 @@
 -- Laws of the table: the boundaries as each start and the last end, written from the front.
 use mathlib.Core.Path.{_≡_, refl, sym, ap, _∙_}
-use mathlib.Core.List.{List, [], _∷_, _++_, map, append-assoc}
+use mathlib.Core.List.{List, [], _∷_, _++_, map}
 use Prim.Native.Nat.{ℕ, suc, _+_, _≤_, _<_}
 use native.Mathlib.Nat.{zero-add}
 use native.Mathlib.Numerals.{add-one}
 use native.Mathlib.Omega.{arith}
-use lib.ListN.{length, take, drop, getD, set, length-set}
-use lib.Seq.{sets, sets-eq, paste-suc, drop-cons, set-at, length-take-le}
-use Rattle.rules.specs.Kinds.{moof}
-use Rattle.rules.specs.Boxes.{boxes, placesOf, whole}
-use Rattle.rules.specs.Fragment.{startOf}
-use borrow.Author.Tests.{lt-ltb, le-ltb}
+use lib.ListN.{length, drop, set, length-set, length-append}
+use lib.Seq.{sets, sets-eq}
+use borrow.Author.Tests.{lt-ltb, le-ltb, leb-true}
+use Rattle.rules.specs.Limits.{byteLimit}
+use Rattle.rules.specs.Track.{rule1, Outcome, ruling, timescale, roomFor, refused, accepted, trackOutcome, headerOf, fragments, fragmentsFrom, fragmentCount, startAt, endAt, lastEnd, ticks, boundaries}
+use Rattle.rules.specs.declared.Header.{Header}
+use Rattle.rules.specs.declared.Previous.{Previous}
+use Rattle.rules.specs.declared.Previous.the-variants.{Unset, End}
+use Rattle.rules.specs.declared.Rule.{Rule}
 use Rattle.rules.specs.declared.Rule.the-variants.{Holds, Breaks}
 use Rattle.rules.specs.declared.Verdict.{Verdict}
-use Rattle.rules.specs.Track.{Outcome, ruling, timescale, roomFor, refused, accepted, trackOutcome, headerOf, fragments, fragmentsFrom, fragmentCount, startAt, endAt, ticks, ticksAfter, boundaries}
-use Rattle.rules.specs.declared.Header.{Header}
-use Rattle.boxes.specs.Siblings.{Comes}
-use Rattle.track.specs.Says.{lastFrom, lastEnd, Kept}
-use Rattle.track.proofs.Fragments.{none-left}
+use Rattle.rules.proofs.Sound.{accepted-keeps}
+use Rattle.rules.proofs.Then.{must-holds}
+use Rattle.rules.proofs.Walk.{some-fragment}
+use Rattle.track.specs.Course.{judgedBy, endFrom, endOfTrack, factsOf, judgement, Known}
+use Rattle.track.specs.Cursor.{NextAt, endList}
+use Rattle.track.specs.declared.TrackFacts.{TrackFacts}
+use Rattle.track.specs.declared.Judged.{Judged}
+use Rattle.track.specs.declared.Judged.the-variants.{Accepted, Refused}
 
--- each start, and the last end
-unfoldable pub written : List ℕ → ℕ → List ℕ → List ℕ
-written s last xs = map (startAt s) xs ++ last ∷ []
+-- each start, and the last end, if there is one
+unfoldable pub written : List ℕ → Previous → List ℕ → List ℕ
+written s end xs = map (startAt s) xs ++ endList end
 
-ticks-written : (s : List ℕ) (h : Header) (e : ℕ) (xs : List ℕ) → ticksAfter s h e xs ≡ written s (lastFrom s h e xs) xs
-unfolding ticksAfter written lastFrom
-ticks-written s h e [] = refl
-ticks-written s h e (x ∷ xs) = ap (λ (l : List ℕ). startAt s x ∷ l) (ticks-written s h (endAt s h x) xs)
+-- the last end of fragments of which one is first
+pub end-last : (s : List ℕ) (h : Header) (x : ℕ) (xs : List ℕ) → endFrom s h (End (endAt s h x)) xs ≡ End (lastEnd s h x xs)
+unfolding endFrom lastEnd
+end-last s h x [] = refl
+end-last s h x (y ∷ ys) = end-last s h y ys
 
-all-ticks : (s : List ℕ) (h : Header) (xs : List ℕ) → 1 ≤ length xs → ticks s h xs ≡ written s (lastFrom s h 0 xs) xs
-unfolding ticks written lastFrom
-all-ticks s h [] n = absurd (omega arith)
-all-ticks s h (x ∷ xs) n = ap (λ (l : List ℕ). startAt s x ∷ l) (ticks-written s h (endAt s h x) xs)
+all-ticks : (s : List ℕ) (h : Header) (xs : List ℕ) → ticks s h xs ≡ written s (endFrom s h Unset xs) xs
+unfolding ticks written endFrom
+all-ticks s h [] = refl
+all-ticks s h (x ∷ xs) = ap (λ (e : Previous). map (startAt s) (x ∷ xs) ++ endList e) (sym (end-last s h x xs))
 
--- the boundaries of a track that has a fragment
-pub boundaries-written : (s : List ℕ) → 1 ≤ fragmentCount s → boundaries s ≡ written s (lastEnd s) (fragments s)
-unfolding boundaries fragmentCount lastEnd
-boundaries-written s n = all-ticks s (headerOf s) (fragments s) n
+-- the boundaries of a track
+pub boundaries-written : (s : List ℕ) → boundaries s ≡ written s (endOfTrack s) (fragments s)
+unfolding boundaries endOfTrack
+boundaries-written s = all-ticks s (headerOf s) (fragments s)
 
-length-written : (s : List ℕ) (last : ℕ) (xs : List ℕ) → length (written s last xs) ≡ length xs + 1
-unfolding written
-length-written s last [] = refl
-length-written s last (x ∷ xs) = omega (arith, length-written s last xs)
+ticks-length : (s : List ℕ) (h : Header) (xs : List ℕ) → 1 ≤ length xs → length (ticks s h xs) ≡ length xs + 1
+unfolding ticks
+ticks-length s h [] n = absurd (omega arith)
+ticks-length s h (x ∷ xs) n = simp length-append (omega (arith, maps xs))
+  where
+    maps : (ys : List ℕ) → length (map (startAt s) ys) ≡ length ys
+    maps [] = refl
+    maps (y ∷ ys) = ap suc (maps ys)
 
--- there is one boundary more than fragments
-pub length-boundaries : (s : List ℕ) → 1 ≤ fragmentCount s → length (boundaries s) ≡ fragmentCount s + 1
-unfolding fragmentCount
-length-boundaries s n = ap length (boundaries-written s n) ∙ length-written s (lastEnd s) (fragments s)
-
--- a fragment's start by its own bytes
-pub starts : (s m : List ℕ) (x : ℕ) → m ≡ whole s x → startOf m ≡ startAt s x
-unfolding startAt
-starts s m x e = ap startOf e
+-- an accepted track has a fragment, and one boundary more than fragments
+pub length-boundaries : (s : List ℕ) → ruling s ≡ Holds → length (boundaries s) ≡ fragmentCount s + 1
+unfolding boundaries fragmentCount
+length-boundaries s r = ticks-length s (headerOf s) (fragments s) (some-fragment s (accepted-keeps s r .0 .2))
 
 -- the table t, written up to k, comes to the whole with what is left
-pub record Writing (s t₀ : List ℕ) (last at k : ℕ) (t : List ℕ) : Type 0 where
-  pub comes : sets t k (written s last (fragmentsFrom s at)) ≡ sets t₀ 0 (boundaries s)
-  pub count : fragmentCount s ≡ k + length (fragmentsFrom s at)
+pub record Writing (s t₀ : List ℕ) (end : Previous) (at k : ℕ) (t : List ℕ) : Type 0 where
+  pub comes : sets t k (written s end (fragmentsFrom s at)) ≡ sets t₀ 0 (boundaries s)
+  pub room : k + length (written s end (fragmentsFrom s at)) ≤ length t₀
+  pub all : length (boundaries s) ≤ length t₀
   pub same : length t ≡ length t₀
-  pub all : (1 ≤ fragmentCount s) × (fragmentCount s + 1 ≤ length t₀)
-  pub few : k ≤ at
+  pub short : length s ≤ byteLimit
   pub inner : at ≤ length s
 
-pub writing-begins : (s t : List ℕ) {last : ℕ} → last ≡ lastEnd s → 1 ≤ fragmentCount s → fragmentCount s + 1 ≤ length t → Writing s t last 0 0 t
-unfolding fragmentCount
-writing-begins s t e n m =
+pub writing-begins : (s t : List ℕ) {end : Previous} → length s ≤ byteLimit → end ≡ endOfTrack s → length (boundaries s) ≤ length t → Writing s t end 0 0 t
+writing-begins s t {end} h e n =
+    let b : written s end (fragments s) ≡ boundaries s = ap (λ (l : Previous). written s l (fragments s)) e ∙ sym (boundaries-written s) in
     record {
-      comes = ap (sets t 0) (ap (λ (l : ℕ). written s l (fragments s)) e ∙ sym (boundaries-written s n));
-      count = omega arith;
+      comes = ap (sets t 0) b;
+      room = omega (arith, ap length b);
+      all = n;
       same = refl;
-      all = (n, m);
-      few = omega arith;
+      short = h;
       inner = omega arith;
     }
 
-module _ (s t₀ : List ℕ) {last at k : ℕ} {t : List ℕ} (w : Writing s t₀ last at k t) where
+module _ (s t₀ : List ℕ) {end : Previous} {at k : ℕ} {t : List ℕ} (w : Writing s t₀ end at k t) where
   -- the last end, after every start
-  pub writing-ends : fragmentCount s ≤ k → set t k last ≡ boundaries s ++ drop (length (boundaries s)) t₀
-  unfolding written
-  writing-ends e =
-      sym (ap (λ (l : List ℕ). sets t k (written s last l)) (none-left s at k (w .count) e))
-      ∙ w .comes
-      ∙ sets-eq (boundaries s) t₀ 0 (omega (arith, w .all, length-boundaries s (w .all .0)))
-      ∙ ap (λ (l : ℕ). boundaries s ++ drop l t₀) (zero-add (length (boundaries s)))
+  module _ (e : fragmentsFrom s at ≡ []) where
+    left : written s end (fragmentsFrom s at) ≡ endList end
+    unfolding written
+    left = ap (written s end) e
 
-  -- while starts are left to write, a fragment comes
-  pub writing-more : k < fragmentCount s → placesOf moof (boxes s at) ≡ [] → ⊥
-  unfolding fragmentsFrom
-  writing-more e f = omega (arith, w .count, ap length f)
+    pub end-room : k + length (endList end) ≤ length t
+    end-room = omega (arith, w .room, w .same, ap length left)
 
-  module _ {p q : ℕ} (c : Comes s at moof p q) where
-    next : fragmentsFrom s at ≡ p ∷ fragmentsFrom s q
-    unfolding fragmentsFrom
-    next = c .places
+    pub writing-ends : {u : List ℕ} → u ≡ sets t k (endList end) → u ≡ boundaries s ++ drop (length (boundaries s)) t₀
+    writing-ends i =
+        i
+        ∙ ap (sets t k) (sym left)
+        ∙ w .comes
+        ∙ sets-eq (boundaries s) t₀ 0 (omega (arith, w .all))
+        ∙ ap (λ (l : ℕ). boundaries s ++ drop l t₀) (zero-add (length (boundaries s)))
+
+  module _ {p q v : ℕ} (c : NextAt s at p q v) where
+    more : written s end (fragmentsFrom s at) ≡ startAt s p ∷ written s end (fragmentsFrom s q)
+    unfolding written
+    more = ap (written s end) (c .places)
+
+    -- there is room for a start
+    pub start-room : k < length t
+    start-room = omega (arith, w .room, w .same, ap length more)
 
     -- a start
-    pub writing-on : (v : ℕ) → v ≡ startAt s p → Writing s t₀ last q (k + 1) (set t k v)
-    unfolding written
-    writing-on v e =
+    pub writing-on : Writing s t₀ end q (k + 1) (set t k v)
+    writing-on =
         record {
           comes =
-              rw (add-one) (ap (λ (x : ℕ). sets (set t k x) (suc k) (written s last (fragmentsFrom s q))) e)
-              ∙ sym (ap (λ (l : List ℕ). sets t k (written s last l)) next)
+              rw (add-one) (ap (λ (x : ℕ). sets (set t k x) (suc k) (written s end (fragmentsFrom s q))) (c .start))
+              ∙ sym (ap (sets t k) more)
               ∙ w .comes;
-          count = omega (arith, w .count, ap length next);
-          same = simp length-set (w .same);
+          room = omega (arith, w .room, ap length more);
           all = w .all;
-          few = omega (arith, w .few, c .from, c .past);
+          same = simp length-set (w .same);
+          short = w .short;
           inner = c .inner;
         }
-
--- of n numbers of a the first k are copied to the front of the table t
-pub record Copying (a t₀ : List ℕ) (n k : ℕ) (t : List ℕ) : Type 0 where
-  pub comes : t ≡ take k a ++ drop k t₀
-  pub same : length t ≡ length t₀
-  pub all : (n ≤ length a) × (n + 1 ≤ length t₀)
-  pub few : k ≤ n
-
-pub copying-begins : (a t : List ℕ) (n : ℕ) → n ≤ length a → n + 1 ≤ length t → Copying a t n 0 t
-copying-begins a t n h m = record { comes = refl; same = refl; all = (h, m); few = omega arith }
-
-module _ (a t₀ : List ℕ) {n k : ℕ} {t : List ℕ} (w : Copying a t₀ n k t) where
-  -- a number
-  pub copying-on : k < n → Copying a t₀ n (k + 1) (set t k (getD a k 0))
-  copying-on h =
-      record {
-        comes = rw (w .comes, add-one) (simp zero-add at (paste-suc t₀ 0 a k 0 (omega (arith, w .all)) (omega (arith, w .all))));
-        same = simp length-set (w .same);
-        all = w .all;
-        few = omega arith;
-      }
-
-  -- the last number, after n
-  pub copying-ends : n ≤ k → (last : ℕ) → set t k last ≡ take n a ++ last ∷ drop (n + 1) t₀
-  copying-ends h last =
-      let e : k ≡ n = omega (arith, w .few) in
-      rw (w .comes, e, add-one, drop-cons t₀ n 0 (omega (arith, w .all))) (set-at (take n a) _ _ last n (length-take-le n a (w .all .0)))
-
--- n starts that are kept, and the last end, are the boundaries
-pub copied : (s a t t′ : List ℕ) (n last : ℕ) → Kept s a → last ≡ lastEnd s → 1 ≤ fragmentCount s → n ≡ fragmentCount s → n ≤ length a
-    → t′ ≡ take n a ++ last ∷ drop (n + 1) t
-    → t′ ≡ boundaries s ++ drop (length (boundaries s)) t
-unfolding written
-copied s a t t′ n last k e m f l g =
-    let starts = map (startAt s) (fragments s) in
-    let h : take n a ≡ starts = ap (λ (j : ℕ). take j a) f ∙ k .starts (omega arith) in
-    let b : boundaries s ≡ starts ++ last ∷ [] = boundaries-written s m ∙ ap (λ (j : ℕ). starts ++ j ∷ []) (sym e) in
-    let i : n + 1 ≡ length (boundaries s) = omega (arith, length-boundaries s m) in
-    g
-    ∙ ap (λ (xs : List ℕ). xs ++ last ∷ drop (n + 1) t) h
-    ∙ sym (append-assoc starts (last ∷ []) (drop (n + 1) t))
-    ∙ rw (← b, i)
 
 -- a refusal's verdict with the table unchanged is the refusal's outcome
 pub refused-is : (t : List ℕ) (n k p : ℕ) {v : Verdict} → v ≡ record { number = n; track = k; place = p; count = 0; timescale = 0 }
@@ -158,29 +128,70 @@ pub refused-is : (t : List ℕ) (n k p : ℕ) {v : Verdict} → v ≡ record { n
 unfolding refused
 refused-is t n k p e = ap (λ (v : Verdict). record { verdict = v; table = t }) e
 
--- a verdict of acceptance with the table as written is the acceptance's outcome
-pub accepted-is : (t t′ bs : List ℕ) {n n′ z z′ : ℕ} → n ≡ n′ → z ≡ z′ → t′ ≡ bs ++ drop (length bs) t
-    → _≡_ {A = Outcome} (record { verdict = record { number = 0; track = 0; place = 0; count = n; timescale = z }; table = t′ }) (accepted n′ z′ bs t)
-unfolding accepted
-accepted-is t t′ bs e f g = cc
+-- an accepted track
+module _ (s : List ℕ) (f : TrackFacts) (k : Known s f) where
+  -- what is known of it, one by one
+  pub known-count : f .fragments ≡ fragmentCount s
+  unfolding factsOf
+  known-count = ap (λ (g : TrackFacts). g .fragments) (k .facts)
 
--- room for the boundaries
-module _ (s t : List ℕ) (n : 1 ≤ fragmentCount s) where
+  pub known-end : f .end ≡ endOfTrack s
+  unfolding factsOf
+  known-end = ap (λ (g : TrackFacts). g .end) (k .facts)
+
+  pub known-scale : f .header .timescale ≡ timescale s
+  unfolding factsOf timescale
+  known-scale = ap (λ (g : TrackFacts). g .header .timescale) (k .facts)
+
+  pub known-short : length s ≤ byteLimit
+  unfolding rule1
+  known-short = leb-true (length s) byteLimit (must-holds _ 1 0 (accepted-keeps s (k .holds) .0 .0))
+
+-- room for its boundaries
+module _ (s t : List ℕ) (f : TrackFacts) (k : Known s f) where
+  long : length (boundaries s) ≡ f .fragments + 1
+  long = omega (arith, length-boundaries s (k .holds), known-count s f k)
+
+  -- what the boundaries need
+  pub known-rest : f .fragments < length t → (length s ≤ byteLimit) × (f .end ≡ endOfTrack s) × (length (boundaries s) ≤ length t)
+  known-rest h = (known-short s f k, known-end s f k, omega (arith, long))
+
   -- 23: the table is too short
-  pub no-room : length t ≤ fragmentCount s → refused 23 0 0 t ≡ roomFor (fragmentCount s) (timescale s) (boundaries s) t
+  pub no-room : length t ≤ f .fragments → refused 23 0 0 t ≡ roomFor (fragmentCount s) (timescale s) (boundaries s) t
   unfolding roomFor
-  no-room h = rw (lt-ltb (length t) (length (boundaries s)) (omega (arith, length-boundaries s n)))
+  no-room h = rw (lt-ltb (length t) (length (boundaries s)) (omega (arith, long)))
 
   -- there is room
-  pub room : fragmentCount s < length t → accepted (fragmentCount s) (timescale s) (boundaries s) t ≡ roomFor (fragmentCount s) (timescale s) (boundaries s) t
-  unfolding roomFor
-  room h = rw (le-ltb (length t) (length (boundaries s)) (omega (arith, length-boundaries s n)))
+  pub room : f .fragments < length t → (t′ : List ℕ) → t′ ≡ boundaries s ++ drop (length (boundaries s)) t
+      → _≡_ {A = Outcome}
+      (record { verdict = record { number = 0; track = 0; place = 0; count = f .fragments; timescale = f .header .timescale }; table = t′ })
+      (roomFor (fragmentCount s) (timescale s) (boundaries s) t)
+  unfolding roomFor accepted
+  room h t′ i = rw (le-ltb (length t) (length (boundaries s)) (omega (arith, long))) (rw (known-count s f k, known-scale s f k, i))
+
+-- what an answer says of the rules
+module _ (s : List ℕ) where
+  pub is-accepted : {f : TrackFacts} → Accepted f ≡ judgement s → Known s f
+  unfolding judgement judgedBy
+  is-accepted {f} = by (ruling s) refl
+    where
+      by : (r : Rule) → ruling s ≡ r → Accepted f ≡ judgedBy r (factsOf s) → Known s f
+      by Holds e q = record { holds = e; facts = cc }
+      by (Breaks n t p) e q = let z : _≡_ {A = ℕ} 0 1 = cc in absurd (omega arith)
+
+  pub is-refused : {n t p : ℕ} → Refused n t p ≡ judgement s → ruling s ≡ Breaks n t p
+  unfolding judgement judgedBy
+  is-refused {n} {t} {p} = by (ruling s) refl
+    where
+      by : (r : Rule) → ruling s ≡ r → Refused n t p ≡ judgedBy r (factsOf s) → ruling s ≡ Breaks n t p
+      by Holds e q = let z : _≡_ {A = ℕ} 0 1 = cc in absurd (omega arith)
+      by (Breaks a b c) e q = e ∙ (cc)
 
 -- the outcome of an accepted track, and of a refused one
 pub acceptance : (s t : List ℕ) → ruling s ≡ Holds → roomFor (fragmentCount s) (timescale s) (boundaries s) t ≡ trackOutcome s t
 unfolding trackOutcome
 acceptance s t e = rw e
 
-pub refusal : (s t : List ℕ) {k p : ℕ} → ruling s ≡ Breaks k 0 p → refused k 0 p t ≡ trackOutcome s t
+pub refusal : (s t : List ℕ) {n k p : ℕ} → ruling s ≡ Breaks n k p → refused n k p t ≡ trackOutcome s t
 unfolding trackOutcome
 refusal s t e = rw e

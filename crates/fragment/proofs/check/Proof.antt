@@ -1,35 +1,38 @@
 -- `fragment::check` meets its contract. Assumes nothing.
-use native.Mathlib.Omega.{arith}
+use mathlib.Core.Path.{sym, _∙_}
 use borrow.Author.Needs.{needs}
 use denote.Ref.{now}
-use Rattle.rules.proofs.Then.{then-holds, then-breaks}
-use Rattle.fragment.proofs.Timed.{timed-says}
+use Rattle.rules.specs.Kinds.{mfhd, traf}
+use Rattle.rules.specs.Fragment.{mfhdIn, trafIn}
+use Rattle.rules.specs.declared.Entry.the-variants.{One}
+use Rattle.counts.proofs.Firsts.{counts-2}
+use Rattle.fragment.proofs.First.{sighted}
+use Rattle.fragment.proofs.Judged.{counts-break, broken-moof}
 use Rattle.fragment.proofs.check.Statement.{statement}
 use Rattle.fragment.proofs.check.Tie as tie
 
-time-requires : tie.Need-time-requires
-time-requires c κs =
-    let r = rw (c .before .answer2 .given .1) at (c .before .before .before .shape-of .ensures) in
-    (omega (arith, c .before .before .before .before .before .pre), r .1 .sound)
+in-traf-requires : tie.Need-in-traf-requires
+unfolding mfhdIn trafIn
+in-traf-requires c κs =
+    let e = c .before .before in
+    let n = e .before .before .counts in
+    let s = e .before .before .before .before in
+    let m = now (s .args .m) in (
+      (s .pre .1, s .pre .2, sym (counts-2 14 m 0 (One mfhd) (One traf)) ∙ sym (n .ensures .rule) ∙ e .enum-told .given .1),
+      (sighted m _ (c .before .first .result) (One mfhd) (n .result .a) (s .pre .0) (n .ensures .a) (c .before .first .ensures), sighted m _ (c .first2 .result) (One traf) (n .result .b) (s .pre .0) (n .ensures .b) (c .first2 .ensures)),
+    )
 
 returns : tie.Need-returns
-returns c = then-breaks _ (rw (c .before .answer .given .1) at (c .before .before .before .shape-of .ensures))
-
-returns-2 : tie.Need-returns-2
-returns-2 c =
-    let a = c .before .before .before .before .before .before .args in
-    let s = c .before .before .answer2 in
-    let r = rw (s .given .1) at (c .before .before .before .before .shape-of .ensures) in
-    rw (then-holds _ (r .0))
-    (timed-says (a .base) (now (a .m)) (a .h .defaults) (a .head) (s .given .0 .0) (r .1) (c .time .result) (a .payload) (a .k) (a .prev) (c .time .ensures))
+returns c =
+    let n = c .before .before .before .counts in
+    let a = c .before .before .before .before .before .args in
+    let m = now (a .m) in
+    let r = counts-break 14 m 0 _ (n .result .rule) (n .ensures .rule) (n .ensures .low) (c .before .rule .given .1) in
+    broken-moof m (a .h) (a .head) (a .payload) (a .prev) (sym (counts-2 14 m 0 (One mfhd) (One traf)) ∙ r .0) (r .1)
 
 pub check-spec : {M : Type 1} → statement M
 check-spec =
     tie.close
     (tie.spec
-    (λ c κs. search needs)
-    (λ c. search needs)
-    (λ c. search needs)
-    time-requires
-    returns
-    returns-2)
+    (λ c κs. search needs) (λ c. search needs) (λ c. search needs) (λ c κs. search needs) (λ c κs. search needs) in-traf-requires
+    returns (λ c. search needs))

@@ -7,6 +7,7 @@ use lib.ListN.{length}
 use borrow.Author.Needs.{needs}
 use Rattle.rules.specs.Boxes.{forest}
 use Rattle.rules.specs.Framing.{framing}
+use Rattle.rules.proofs.Forest.{look-found}
 use Rattle.framing.proofs.Steps.{at-end, at-limit, told, known, body-length, reads-broken, reads-leaf, reads-container}
 use borrow.Fn.Kinds.{In}
 use borrow.Fn.PlainCycle.{Measures, is, falls, and}
@@ -84,9 +85,11 @@ pub +read-box+read-run-spec : {M : Type 1} → statement M
     (λ c. (refl, omega arith))
     (λ c κs. omega arith)
     (λ c. search needs)
-    (λ c. let k = known _ _ _ _ _ (c .before .next .given .1) (c .before .before .before .read-box .ensures) in omega (arith, k .1, k .2))
-    (λ c. let k = known _ _ _ _ _ (c .before .next .given .1) (c .before .before .before .read-box .ensures) in (c .before .before .before .before .loop .inv .0 ∙ k .0, k .2))
+    (λ c. let k = known _ _ _ _ _ (c .before .size .given .1) (c .before .before .before .read-box .ensures) in omega (arith, look-found _ _ _ _ _ (k .1)))
+    (λ c. let k = known _ _ _ _ _ (c .before .size .given .1) (c .before .before .before .read-box .ensures) in omega (arith, look-found _ _ _ _ _ (k .1)))
+    (λ c. let k = known _ _ _ _ _ (c .before .size .given .1) (c .before .before .before .read-box .ensures) in
+    (c .before .before .before .before .loop .inv .0 ∙ k .0, look-found _ _ _ _ _ (k .1) .fits))
     (λ c. search needs)
-    (λ c. sym (c .before .before .before .loop .inv .0 ∙ known _ _ _ _ _ (c .enum-told .given .1) (c .before .before .read-box .ensures)))
+    (λ c. sym (c .before .before .before .loop .inv .0 ∙ known _ _ _ _ _ (c .enum-told .given .1) (c .before .before .read-box .ensures) .0))
     (λ c. search needs)
     (λ c. sym (c .before .before .before .before .loop .inv .0 ∙ known _ _ _ _ _ (c .before .number .given .1) (c .before .before .before .read-box .ensures)))

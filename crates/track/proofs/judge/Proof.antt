@@ -1,22 +1,77 @@
 -- `track::judge` meets its contract. Assumes nothing.
-use mathlib.Core.Path.{sym, ap, _∙_}
+use Prim.Native.Nat.{_-_}
+use native.Mathlib.Omega.{arith}
+use lib.ListN.{length}
 use borrow.Author.Needs.{needs}
 use denote.Ref.{now}
-use Rattle.rules.specs.Framing.{framingRule}
-use Rattle.track.proofs.Stages.{too-long, framed-on, misframed}
+use Rattle.rules.proofs.Forest.{look-found}
+use Rattle.boxes.proofs.Stands.{stands-here}
+use Rattle.framing.proofs.Steps.{known}
+use Rattle.track.proofs.Judging.{Going, going-begins, too-long, going-on, going-ends, going-breaks}
 use Rattle.track.proofs.judge.Statement.{statement}
 use Rattle.track.proofs.judge.Tie as tie
 
-returns : tie.Need-returns
-returns c = too-long (now (c .before .before .before .args .s)) (c .if1 .taken)
+abbrev Inv-loop : tie.InvT-loop
+Inv-loop s at₀ count₀ course₀ at count course = Going s at count course
 
-returns-2 : tie.Need-returns-2
+abbrev μ-loop : tie.MeasureT-loop
+μ-loop s at₀ count₀ course₀ at count course = length s - at
+
+returns : tie.Need-returns Inv-loop μ-loop
+returns c = too-long (now (c .before .before .args .s)) (c .if1 .taken)
+
+loop-holds : tie.Need-loop-holds Inv-loop μ-loop
+loop-holds c = going-begins _
+
+read-box-requires : tie.Need-read-box-requires Inv-loop μ-loop
+read-box-requires c κs = omega (arith, c .before .if1 .left)
+
+after-requires : tie.Need-after-requires Inv-loop μ-loop
+after-requires c κs =
+    let k = known _ _ _ _ _ (c .before .head .given .1) (c .before .before .before .read-box .ensures) in
+    (c .before .before .before .before .loop .inv .fits, stands-here (look-found _ _ _ _ _ (k .1)), c .before .before .before .before .before .if1 .left)
+
+add-at : tie.Need-add-at Inv-loop μ-loop
+add-at c =
+    let k = known _ _ _ _ _ (c .before .before .head .given .1) (c .before .before .before .before .read-box .ensures) in
+    omega (arith, look-found _ _ _ _ _ (k .1))
+
+loop-less : tie.Need-loop-less Inv-loop μ-loop
+loop-less c =
+    let k = known _ _ _ _ _ (c .before .before .head .given .1) (c .before .before .before .before .read-box .ensures) in
+    omega (arith, look-found _ _ _ _ _ (k .1))
+
+loop-again : tie.Need-loop-again Inv-loop μ-loop
+loop-again c =
+    let k = known _ _ _ _ _ (c .before .before .head .given .1) (c .before .before .before .before .read-box .ensures) in
+    rw (c .after .ensures) (going-on _ (c .before .before .before .before .before .loop .inv) (k .0) (k .1))
+
+returns-2 : tie.Need-returns-2 Inv-loop μ-loop
 returns-2 c =
-    framed-on (now (c .before .before .before .before .before .before .before .before .before .before .args .s)) (c .before .before .before .before .before .before .before .if1 .left) (ap framingRule (sym (c .before .before .before .before .before .before .frame .ensures) ∙ c .before .before .before .before .enum-told .given .1)) (c .before .before .after-framing .result) _ (c .before .before .after-framing .ensures)
+    let k = known _ _ _ _ _ (c .before .enum-told .given .1) (c .before .before .before .read-box .ensures) in
+    going-ends _ (c .before .before .before .before .loop .inv) (c .before .before .before .before .before .if1 .left) (k .0) (k .1) (c .ended .ensures)
 
-returns-3 : tie.Need-returns-3
+returns-3 : tie.Need-returns-3 Inv-loop μ-loop
 returns-3 c =
-    misframed (now (c .before .before .before .before .before .before .before .args .s)) (c .before .before .before .before .if1 .left) (ap framingRule (sym (c .before .before .before .frame .ensures) ∙ c .before .number .given .1))
+    going-breaks _ (c .before .before .before .before .loop .inv) (c .before .before .before .before .before .if1 .left)
+    (known _ _ _ _ _ (c .before .number .given .1) (c .before .before .before .read-box .ensures))
 
 pub judge-spec : {M : Type 1} → statement M
-judge-spec = tie.close (tie.spec returns (λ c κs. search needs) (λ c. search needs) (λ c κs. search needs) (λ c. search needs) (λ c. search needs) returns-2 returns-3)
+judge-spec =
+    tie.close
+    (tie.spec
+    Inv-loop
+    μ-loop
+    returns
+    loop-holds
+    read-box-requires
+    (λ c. search needs)
+    after-requires
+    add-at
+    loop-less
+    loop-again
+    (λ c. search needs)
+    (λ c κs. search needs)
+    returns-2
+    (λ c. search needs)
+    returns-3)

@@ -1,65 +1,38 @@
 -- `fragment::bodies::read_tfdt` meets its contract. Assumes nothing.
 use native.Mathlib.Omega.{arith}
 use borrow.Author.Needs.{needs}
-use borrow.Author.Tests.{eq-eqb, ne-eqb}
-use Rattle.rules.specs.Header.{field, versioned}
-use Rattle.fragment.specs.Bodies.{timeAt}
+use Rattle.fragment.proofs.Formed.{body-right, body-wrong, start-other, start-one}
 use Rattle.fragment.proofs.bodies.read_tfdt.Statement.{statement}
 use Rattle.fragment.proofs.bodies.read_tfdt.Tie as tie
 
+word-requires : tie.Need-word-requires
+word-requires c κs =
+    let v = rw (c .enum-told .given .1) at (c .before .before .versioned .ensures) in
+    (c .before .before .before .before .pre .stands, omega (arith, v .2))
+
+double-requires : tie.Need-double-requires
+double-requires c κs =
+    let v = rw (c .enum-told2 .given .1) at (c .before .before .versioned .ensures) in
+    (c .before .before .before .before .pre .stands, omega (arith, v .2))
+
 returns : tie.Need-returns
-unfolding versioned timeAt field
 returns c =
-    let v = c .before .before .before in
-    let r = v .before .before .before .full-at in
-    let f = r .ensures in (
-      rw (← f .version, eq-eqb _ _ (v .if1 .taken), ← f .size) (eq-eqb _ _ (c .before .if2 .taken)),
-      rw (← f .version, ne-eqb (r .result .version) 1 (λ e. omega (arith, e, v .if1 .taken)), ← f .head) (c .be4 .ensures),
-    )
+    let p = c .before .before .before .before .before .pre in
+    let v = rw (c .before .enum-told .given .1) at (c .before .before .before .versioned .ensures) in
+    (rw (← p .place) (body-right _ _ _ (v .0)), start-other _ (c .before .before .before .before .before .args .b) (p .place) _ (λ o. omega (arith, o, v .1)) (c .word .ensures))
 
 returns-2 : tie.Need-returns-2
-unfolding versioned
 returns-2 c =
-    let v = c .before .before in
-    let f = v .before .before .before .full-at .ensures in
-    rw (← f .version, eq-eqb _ _ (v .if1 .taken), ← f .size) (ne-eqb _ _ (c .if2 .left))
+    let p = c .before .before .before .before .before .pre in
+    let v = rw (c .before .enum-told2 .given .1) at (c .before .before .before .versioned .ensures) in
+    (rw (← p .place) (body-right _ _ _ (v .0)), start-one _ (c .before .before .before .before .before .args .b) (p .place) _ (v .1) (c .double .ensures))
 
 returns-3 : tie.Need-returns-3
-unfolding versioned timeAt
-returns-3 c =
-    let w = c .before .before .before in
-    let v = w .before .before in
-    let f = v .before .before .before .full-at .ensures in (
-      rw (← f .version, ne-eqb _ _ (v .if1 .left), eq-eqb _ _ (w .if3 .taken), ← f .size) (eq-eqb _ _ (c .before .if4 .taken)),
-      rw (← f .version, eq-eqb _ _ (w .if3 .taken), ← f .head) (c .be8 .ensures),
-    )
-
-returns-4 : tie.Need-returns-4
-unfolding versioned
-returns-4 c =
-    let w = c .before .before in
-    let v = w .before .before in
-    let f = v .before .before .before .full-at .ensures in
-    rw (← f .version, ne-eqb _ _ (v .if1 .left), eq-eqb _ _ (w .if3 .taken), ← f .size) (ne-eqb _ _ (c .if4 .left))
-
-returns-5 : tie.Need-returns-5
-unfolding versioned
-returns-5 c =
-    let v = c .before .before in
-    rw (← v .before .before .before .full-at .ensures .version, ne-eqb _ _ (v .if1 .left), ne-eqb _ _ (c .if3 .left))
+returns-3 c = rw (← c .before .before .before .before .pre .place) (body-wrong _ _ _ (rw (c .enum-told3 .given .1) at (c .before .before .versioned .ensures)))
 
 pub read-tfdt-spec : {M : Type 1} → statement M
 read-tfdt-spec =
     tie.close
     (tie.spec
-    (λ c κs. search needs)
-    (λ c. search needs)
-    (λ c. search needs)
-    (λ c κs. search needs)
-    (λ c. search needs)
-    returns
-    returns-2
-    (λ c κs. search needs)
-    returns-3
-    returns-4
-    returns-5)
+    (λ c κs. search needs) (λ c. search needs) word-requires (λ c. search needs) (λ c. search needs) double-requires
+    (λ c. search needs) returns returns-2 returns-3)

@@ -1,44 +1,46 @@
 -- `fragment::bodies::read_tfhd` meets its contract. Assumes nothing.
+use mathlib.Core.Path.{sym, _∙_}
+use native.Mathlib.Omega.{arith}
 use borrow.Author.Needs.{needs}
-use borrow.Author.Tests.{eq-eqb, ne-eqb}
-use Rattle.rules.specs.Header.{field, plain}
-use Rattle.fragment.specs.Layout.{defaultsAt}
+use borrow.Author.Tests.{not-true, not-false}
+use Rattle.fragment.proofs.Formed.{body-right, body-wrong, tfhd-low, tfhd-short, plain-size}
 use Rattle.fragment.proofs.bodies.read_tfhd.Statement.{statement}
 use Rattle.fragment.proofs.bodies.read_tfhd.Tie as tie
 
 returns : tie.Need-returns
-unfolding plain
-returns c = rw (← c .before .before .before .full-at .ensures .version, ne-eqb _ _ (c .if1 .taken))
+returns c =
+    let p = c .before .before .before .pre in
+    rw (← p .place) (body-wrong _ _ _ (tfhd-short _ _ (p .stands) (c .if1 .taken)))
+
+is-plain-requires : tie.Need-is-plain-requires
+is-plain-requires c κs =
+    (c .before .before .before .before .before .pre .stands, omega (arith, c .tfhd-size .ensures, tfhd-low (c .before .flags .result)))
 
 returns-2 : tie.Need-returns-2
-unfolding plain
 returns-2 c =
-    let v = c .before .before .before in
-    let f = v .before .before .before .full-at .ensures in
-    rw (← f .version, eq-eqb _ _ (v .if1 .left), ← f .size, ← f .flags, ← c .before .before .tfhd-size .ensures) (ne-eqb _ _ (c .if2 .taken))
+    let t = c .before .before in
+    let p = t .before .before .before .before .before .pre in
+    rw (← p .place, ← t .before .flags .ensures .0, ← t .tfhd-size .ensures) (body-wrong _ _ _ (sym (c .before .is-plain .ensures) ∙ not-true _ (c .if2 .taken)))
+
+defaults-requires : tie.Need-defaults-requires
+defaults-requires c κs =
+    let t = c .before .before .before in
+    let p = t .before .before .before .before .before .pre in
+    (p, (t .before .flags .ensures .0, rw (← t .tfhd-size .ensures) (plain-size _ _ (p .stands) _ (omega (arith, t .tfhd-size .ensures, tfhd-low (t .before .flags .result))) (sym (c .before .before .is-plain .ensures) ∙ not-false _ (c .before .if2 .left)))))
 
 returns-3 : tie.Need-returns-3
-unfolding plain field defaultsAt
 returns-3 c =
-    let z = c .before .before in
-    let v = z .before .before .before in
-    let f = v .before .before .before .full-at .ensures in (
-      rw (← f .version, eq-eqb _ _ (v .if1 .left), ← f .size, ← f .flags, ← z .before .before .tfhd-size .ensures) (eq-eqb _ _ (z .if2 .left)),
-      f .flags,
-      rw (← f .head) (c .before .be4 .ensures),
-      rw (← f .head, ← f .flags) (c .defaults-behind .ensures),
+    let t = c .before .before .before .before in
+    let p = t .before .before .before .before .before .pre in (
+      rw (← p .place, ← t .before .flags .ensures .0, ← t .tfhd-size .ensures) (body-right _ _ _ (sym (c .before .before .before .is-plain .ensures) ∙ not-false _ (c .before .before .if2 .left))),
+      rw (← p .place) (t .before .flags .ensures .0),
+      rw (← p .place) (c .before .word .ensures),
+      c .defaults .ensures,
     )
 
 pub read-tfhd-spec : {M : Type 1} → statement M
 read-tfhd-spec =
     tie.close
     (tie.spec
-    (λ c κs. search needs)
-    (λ c. search needs)
-    returns
-    (λ c κs. search needs)
-    returns-2
-    (λ c. search needs)
-    (λ c κs. search needs)
-    (λ c κs. search needs)
-    returns-3)
+    (λ c. search needs) returns (λ c κs. search needs) (λ c κs. search needs) is-plain-requires returns-2 (λ c κs. search needs)
+    defaults-requires returns-3)

@@ -11,9 +11,4 @@ returns-2 c = rw (← c .before .has .ensures, c .if1 .left)
 
 pub apart-spec : {M : Type 1} → statement M
 apart-spec =
-    tie.close
-    (tie.spec
-    (λ c κs. search needs)
-    (λ c κs. search needs)
-    returns
-    returns-2)
+    tie.close (tie.spec (λ c κs. search needs) (λ c κs. search needs) returns returns-2)

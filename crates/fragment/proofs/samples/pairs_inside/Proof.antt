@@ -71,18 +71,5 @@ pub pairs-inside-spec : {M : Type 1} → statement M
 pairs-inside-spec =
     tie.close
     (tie.spec
-    Inv-loop
-    μ-loop
-    loop-holds
-    near4-requires
-    (λ c. search needs)
-    (λ c. omega arith)
-    add-near4
-    near4-requires-2
-    (λ c. search needs)
-    (λ c. omega arith)
-    add-p
-    (λ c. omega arith)
-    (λ c. omega arith)
-    loop-again
-    returns)
+    Inv-loop μ-loop loop-holds near4-requires (λ c. search needs) (λ c. omega arith) add-near4 near4-requires-2
+    (λ c. search needs) (λ c. omega arith) add-p (λ c. omega arith) (λ c. omega arith) loop-again returns)

@@ -51,14 +51,5 @@ pub sum-inside-spec : {M : Type 1} → statement M
 sum-inside-spec =
     tie.close
     (tie.spec
-    Inv-loop
-    μ-loop
-    loop-holds
-    near4-requires
-    (λ c. search needs)
-    (λ c. omega arith)
-    add-p
-    (λ c. omega arith)
-    (λ c. omega arith)
-    loop-again
-    returns)
+    Inv-loop μ-loop loop-holds near4-requires (λ c. search needs) (λ c. omega arith) add-p (λ c. omega arith) (λ c. omega arith)
+    loop-again returns)

@@ -74,17 +74,5 @@ pub sums-of-spec : {M : Type 1} → statement M
 sums-of-spec =
     tie.close
     (tie.spec
-    (λ c κs. search needs)
-    (λ c κs. search needs)
-    pairs-requires
-    returns
-    sum-requires
-    (λ c κs. search needs)
-    returns-2
-    (λ c κs. search needs)
-    (λ c κs. search needs)
-    sum-requires-2
-    returns-3
-    (λ c κs. search needs)
-    (λ c κs. search needs)
-    returns-4)
+    (λ c κs. search needs) (λ c κs. search needs) pairs-requires returns sum-requires (λ c κs. search needs) returns-2
+    (λ c κs. search needs) (λ c κs. search needs) sum-requires-2 returns-3 (λ c κs. search needs) (λ c κs. search needs) returns-4)

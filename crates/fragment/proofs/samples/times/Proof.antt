@@ -12,7 +12,4 @@ returns c = summed-const (c .args .x) (c .args .n) (omega arith)
 
 pub times-spec : {M : Type 1} → statement M
 times-spec =
-    tie.close
-    (tie.spec
-    mul-result
-    returns)
+    tie.close (tie.spec mul-result returns)

@@ -1,72 +1,93 @@
 -- `header::bodies::rule8` meets its contract. Assumes nothing.
 use borrow.Author.Needs.{needs}
 use Rattle.rules.specs.Header.{rule8}
-use Rattle.header.specs.Groups.{rule8hdlr, rule8stco}
-use Rattle.header.proofs.InOrder.{go, stop, tested, pass, fail}
+use Rattle.header.proofs.Eight.{past, stop, plain-mvhd, wrong-mvhd, tells, wrong}
 use Rattle.header.proofs.bodies.rule8.Statement.{statement}
 use Rattle.header.proofs.bodies.rule8.Tie as tie
 
 returns : tie.Need-returns
-unfolding rule8 rule8hdlr rule8stco
-returns c = stop _ (tested _ _ (c .before .before .must .ensures) (c .before .before .before .ftyp-sized .ensures)) (c .enum-told2 .given .1)
+unfolding rule8
+returns c = stop _ (wrong-mvhd _ _ (c .before .before .read-mvhd .ensures) (c .enum-told2 .given .1))
 
 returns-2 : tie.Need-returns-2
-unfolding rule8 rule8hdlr rule8stco
+unfolding rule8
 returns-2 c =
-    let p = c .before .before .before in
-    go (tested _ _ (p .before .before .must .ensures) (p .before .before .before .ftyp-sized .ensures)) (p .enum-told .given .1)
-    (fail _ (c .breaks8 .ensures) (c .before .before .versioned .ensures) (c .before .if1 .taken))
+    let a = c .before .before .before in
+    past (plain-mvhd _ _ (a .before .before .read-mvhd .ensures) (a .enum-told .given .1))
+    (wrong _ _ _ _ _ (c .before .before .read-timed .ensures) (c .enum-told3 .given .1))
 
 returns-3 : tie.Need-returns-3
-unfolding rule8 rule8hdlr rule8stco
+unfolding rule8
 returns-3 c =
-    let q = c .before .before .before in
-    let p = q .before .before in
-    go (tested _ _ (p .before .before .must .ensures) (p .before .before .before .ftyp-sized .ensures)) (p .enum-told .given .1)
-    (pass _ _ (q .before .versioned .ensures) (q .if1 .left)
-    (fail _ (c .breaks82 .ensures) (c .before .before .versioned2 .ensures) (c .before .if2 .taken)))
+    let b = c .before .before .before in
+    let a = b .before .before .before .before in
+    past (plain-mvhd _ _ (a .before .before .read-mvhd .ensures) (a .enum-told .given .1))
+    (past (tells _ _ _ _ (b .before .before .before .read-timed .ensures) (b .before .id .given .1) .0)
+    (wrong _ _ _ _ _ (c .before .before .read-timed2 .ensures) (c .enum-told4 .given .1)))
 
 returns-4 : tie.Need-returns-4
-unfolding rule8 rule8hdlr rule8stco
+unfolding rule8
 returns-4 c =
-    let r = c .before .before .before in
-    let q = r .before .before in
-    let p = q .before .before in
-    go (tested _ _ (p .before .before .must .ensures) (p .before .before .before .ftyp-sized .ensures)) (p .enum-told .given .1)
-    (pass _ _ (q .before .versioned .ensures) (q .if1 .left)
-    (pass _ _ (r .before .versioned2 .ensures) (r .if2 .left)
-    (fail _ (c .breaks83 .ensures) (c .before .before .versioned3 .ensures) (c .before .if3 .taken))))
+    let d = c .before .before .before in
+    let b = d .before .before .before .before in
+    let a = b .before .before .before .before in
+    past (plain-mvhd _ _ (a .before .before .read-mvhd .ensures) (a .enum-told .given .1))
+    (past (tells _ _ _ _ (b .before .before .before .read-timed .ensures) (b .before .id .given .1) .0)
+    (past (tells _ _ _ _ (d .before .before .before .read-timed2 .ensures) (d .before .timescale .given .1) .0)
+    (wrong _ _ _ _ _ (c .before .before .read-least .ensures) (c .enum-told5 .given .1))))
 
 returns-5 : tie.Need-returns-5
-unfolding rule8 rule8hdlr rule8stco
+unfolding rule8
 returns-5 c =
-    let s = c .before in
-    let r = s .before .before in
-    let q = r .before .before in
-    let p = q .before .before in
-    go (tested _ _ (p .before .before .must .ensures) (p .before .before .before .ftyp-sized .ensures)) (p .enum-told .given .1)
-    (pass _ _ (q .before .versioned .ensures) (q .if1 .left)
-    (pass _ _ (r .before .versioned2 .ensures) (r .if2 .left)
-    (pass _ _ (s .before .versioned3 .ensures) (s .if3 .left)
-    (c .rule8hdlr .ensures))))
+    let e = c .before .before .before in
+    let d = e .before .before .before .before in
+    let b = d .before .before .before .before in
+    let a = b .before .before .before .before in
+    past (plain-mvhd _ _ (a .before .before .read-mvhd .ensures) (a .enum-told .given .1))
+    (past (tells _ _ _ _ (b .before .before .before .read-timed .ensures) (b .before .id .given .1) .0)
+    (past (tells _ _ _ _ (d .before .before .before .read-timed2 .ensures) (d .before .timescale .given .1) .0)
+    (past (tells _ _ _ _ (e .before .before .before .read-least .ensures) (e .before .handler .given .1) .0)
+    (wrong _ _ _ _ _ (c .before .before .read-least2 .ensures) (c .enum-told6 .given .1)))))
+
+rule8-tables-requires : tie.Need-rule8-tables-requires
+rule8-tables-requires c κs =
+    let e = c .before .before .before .before in
+    let d = e .before .before .before .before in
+    let b = d .before .before .before .before in
+    let a = b .before .before .before .before in (
+      a .before .before .before .before .pre,
+      record {
+        mvhd = plain-mvhd _ _ (a .before .before .read-mvhd .ensures) (a .enum-told .given .1);
+        tkhd = tells _ _ _ _ (b .before .before .before .read-timed .ensures) (b .before .id .given .1);
+        mdhd = tells _ _ _ _ (d .before .before .before .read-timed2 .ensures) (d .before .timescale .given .1);
+        hdlr = tells _ _ _ _ (e .before .before .before .read-least .ensures) (e .before .handler .given .1);
+        stsd = tells _ _ _ _ (c .before .before .before .read-least2 .ensures) (c .before .stsd .given .1);
+      },
+    )
 
 pub rule8-spec : {M : Type 1} → statement M
 rule8-spec =
     tie.close
     (tie.spec
     (λ c κs. search needs)
-    (λ c κs. search needs)
     (λ c. search needs)
     (λ c. search needs)
     returns
     (λ c κs. search needs)
-    (λ c κs. search needs)
+    (λ c. search needs)
+    (λ c. search needs)
     returns-2
     (λ c κs. search needs)
-    (λ c κs. search needs)
+    (λ c. search needs)
+    (λ c. search needs)
     returns-3
     (λ c κs. search needs)
-    (λ c κs. search needs)
+    (λ c. search needs)
+    (λ c. search needs)
     returns-4
     (λ c κs. search needs)
-    returns-5)
+    (λ c. search needs)
+    (λ c. search needs)
+    returns-5
+    rule8-tables-requires
+    (λ c. search needs))

@@ -1,7 +1,7 @@
 -- `header::values::pairs` meets its contract. Assumes nothing.
 use borrow.Author.Needs.{needs}
 use Rattle.numbers.specs.Numbers.{be4}
-use Rattle.header.proofs.Letters.{gave, pairs-vide, pairs-soun, pairs-subt, pairs-none}
+use Rattle.header.proofs.Spelt.{gave, pairs-vide, pairs-soun, pairs-subt, pairs-none}
 use Rattle.header.proofs.values.pairs.Statement.{statement}
 use Rattle.header.proofs.values.pairs.Tie as tie
 

@@ -1,0 +1,3 @@
+pub mod Walked
+pub mod Firsts
+pub mod Judged

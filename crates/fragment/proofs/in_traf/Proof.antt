@@ -1,0 +1,49 @@
+-- `fragment::in_traf` meets its contract. Assumes nothing.
+use mathlib.Core.Path.{sym, _∙_}
+use borrow.Author.Needs.{needs}
+use denote.Ref.{now}
+use Rattle.rules.specs.Kinds.{tfhd, tfdt, trun}
+use Rattle.rules.specs.Fragment.{tfhdIn, tfdtIn, firstRun}
+use Rattle.rules.specs.declared.Entry.the-variants.{One, OneOrMore}
+use Rattle.fragment.proofs.First.{sighted}
+use Rattle.fragment.proofs.Judged.{counts-break, broken-traf, right-14}
+use Rattle.fragment.proofs.in_traf.Statement.{statement}
+use Rattle.fragment.proofs.in_traf.Tie as tie
+
+read-requires : tie.Need-read-requires
+unfolding tfhdIn tfdtIn firstRun
+read-requires c κs =
+    let e = c .before .before .before in
+    let n = e .before .before .counts in
+    let s = e .before .before .before .before in
+    let a = s .args in
+    let m = now (a .m) in
+    let t = s .pre .1 .1 in (
+      s .pre .0 .0,
+      s .pre .0 .1,
+      record {
+        mfhd = s .pre .1 .0;
+        traf = t;
+        tfhd = rw (← t .place) (sighted m (a .traf) (c .before .before .first .result) (One tfhd) (n .result .a) (t .stands) (n .ensures .a) (c .before .before .first .ensures));
+        tfdt = rw (← t .place) (sighted m (a .traf) (c .before .first2 .result) (One tfdt) (n .result .b) (t .stands) (n .ensures .b) (c .before .first2 .ensures));
+        run = rw (← t .place) (sighted m (a .traf) (c .first3 .result) (OneOrMore trun) (n .result .c) (t .stands) (n .ensures .c) (c .first3 .ensures));
+      },
+      right-14 m (s .pre .0 .2) (rw (← t .place) (sym (n .ensures .rule) ∙ e .enum-told .given .1)),
+    )
+
+returns : tie.Need-returns
+returns c =
+    let n = c .before .before .before .counts in
+    let s = c .before .before .before .before .before in
+    let a = s .args in
+    let m = now (a .m) in
+    let r = counts-break 14 m (a .traf .at) _ (n .result .rule) (n .ensures .rule) (n .ensures .low) (c .before .rule .given .1) in
+    broken-traf m (a .h) (a .head) (a .payload) (a .prev) (s .pre .0 .2)
+    (rw (← s .pre .1 .1 .place) (r .0)) (r .1)
+
+pub in-traf-spec : {M : Type 1} → statement M
+in-traf-spec =
+    tie.close
+    (tie.spec
+    (λ c κs. search needs) (λ c. search needs) (λ c. search needs) (λ c κs. search needs) (λ c κs. search needs)
+    (λ c κs. search needs) read-requires returns (λ c. search needs))

@@ -1,0 +1,68 @@
+-- Laws of rule 7 container by container: its counts, and where the first box of each entry stands.
+use mathlib.Core.Path.{_≡_, refl, ap, _∙_}
+use mathlib.Core.List.{List, [], _∷_, _++_}
+use Prim.Native.Nat.{ℕ}
+use lib.ListN.{length}
+use Rattle.rules.specs.Rules.{_then_, placedUpTo}
+use Rattle.rules.specs.Boxes.{kids}
+use Rattle.rules.specs.Counts.{seen, firstIn, counts, countsIf}
+use Rattle.rules.specs.declared.Entry.{Entry}
+use Rattle.rules.specs.declared.Rule.{Rule}
+use Rattle.rules.specs.declared.Rule.the-variants.{Holds, Breaks}
+use Rattle.rules.specs.declared.Seen.{Seen}
+use Rattle.boxes.specs.Stands.{Whole}
+use Rattle.boxes.specs.declared.Spot.{Spot}
+use Rattle.counts.specs.Sights.{seenOf, spotOf, Sighted, Counts}
+use Rattle.counts.specs.declared.Sight.{Sight}
+use Rattle.counts.specs.declared.Counted.{Counted}
+use Rattle.counts.proofs.Firsts.{first-stands, first-is, counts-join}
+use Rattle.header.specs.Places.{At, Judges}
+
+-- `moov` stands at its own start
+pub at-start : {m : List ℕ} {h : ℕ} (w : Whole m h) → At m 0 (record { at = 0; head = h; size = length m })
+at-start w = record { is = refl; stands = w }
+
+-- in the container that stands at a place
+module _ {m : List ℕ} {x : Spot} {p : ℕ} (h : At m p x) where
+  -- the first box of an entry
+  pub met : {e : Entry} {v : Sight} {b : Spot} → Sighted m (x .at) e v → b ≡ spotOf v x → At m (firstIn m p e) b
+  met {e} {v} {b} g k =
+      record {
+        is = ap (λ (s : Spot). s .at) k ∙ first-is x g ∙ ap (λ (i : ℕ). firstIn m i e) (h .is);
+        stands = rw k (first-stands (h .stands) g);
+      }
+
+  -- its counts, by other entries that come to the same
+  pub judged : {a b c : Entry} {r : Counted} {q : Rule} → Counts 7 m (x .at) a b c r → counts 7 m p (a ∷ b ∷ c ∷ []) ≡ q
+      → Judges m q (r .rule)
+  judged {a} {b} {c} g k = record { is = g .rule ∙ ap (λ (i : ℕ). counts 7 m i (a ∷ b ∷ c ∷ [])) (h .is) ∙ k; low = g .low }
+
+  -- those in a container that may be absent
+  pub judged-if : {e : Entry} (w : Entry) {v : Sight} {r : Rule} → Sighted m (x .at) e v → r ≡ countsIf 7 m (seenOf v) (w ∷ []) → placedUpTo (length m) r
+      → Judges m (countsIf 7 m (seen e (kids m p)) (w ∷ [])) r
+  judged-if {e} w g k l =
+      record {
+        is = k ∙ ap (λ (s : Seen). countsIf 7 m s (w ∷ [])) (g .all) ∙ ap (λ (i : ℕ). countsIf 7 m (seen e (kids m i)) (w ∷ [])) (h .is);
+        low = l;
+      }
+
+-- what two rules keep, both together keep
+pub then-keeps : (P : Rule → Type 0) (r q : Rule) → P r → P q → P (r then q)
+unfolding _then_
+then-keeps P Holds q h k = k
+then-keeps P (Breaks a t p) q h k = h
+
+-- one container's counts after another's
+pub judged-then : {m : List ℕ} {p q r s t : Rule} → t ≡ (r then s) → Judges m p r → Judges m q s → Judges m (p then q) t
+judged-then {m} {p} {q} {r} {s} e a b =
+    record {
+      is = e ∙ ap (λ (i : Rule). i then s) (a .is) ∙ ap (λ (i : Rule). p then i) (b .is);
+      low = rw e (then-keeps (placedUpTo (length m)) r s (a .low) (b .low));
+    }
+
+-- counts in two walks over one container
+pub judged-join : {m : List ℕ} (p : ℕ) (es fs : List Entry) {r s t : Rule} → t ≡ (r then s) → Judges m (counts 7 m p es) r → Judges m (counts 7 m p fs) s
+    → Judges m (counts 7 m p (es ++ fs)) t
+judged-join {m} p es fs e a b =
+    let j = judged-then e a b in
+    record { is = j .is ∙ counts-join 7 m p es fs; low = j .low }

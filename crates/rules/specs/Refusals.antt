@@ -1,0 +1,69 @@
+-- The numbers of refusals by what they are about. A new refusal is one more element of the list that it belongs to.
+use Prim.Native.Nat.{ℕ}
+use mathlib.Core.Bool.{Bool, true, false, not, _&&_, _||_}
+use mathlib.Core.List.{List, [], _∷_, _++_}
+use lib.Dec.{eqb}
+
+-- whether a number is one of a list
+unfoldable pub member : ℕ → List ℕ → Bool
+member n [] = false
+member n (x ∷ xs) = eqb n x || member n xs
+
+-- whether every number of a list is one of another, and whether none is
+unfoldable pub among : List ℕ → List ℕ → Bool
+among [] ys = true
+among (x ∷ xs) ys = member x ys && among xs ys
+
+unfoldable pub apart : List ℕ → List ℕ → Bool
+apart [] ys = true
+apart (x ∷ xs) ys = not (member x ys) && apart xs ys
+
+-- the length of a slice
+abbrev pub lengthNumbers : List ℕ
+lengthNumbers = 1 ∷ []
+
+-- the framing of its boxes
+abbrev pub framingNumbers : List ℕ
+framingNumbers = 2 ∷ 3 ∷ 4 ∷ 5 ∷ []
+
+-- the order of the top level
+abbrev pub orderNumbers : List ℕ
+orderNumbers = 6 ∷ []
+
+-- the header
+abbrev pub headerNumbers : List ℕ
+headerNumbers = 7 ∷ 8 ∷ 9 ∷ 10 ∷ 11 ∷ 12 ∷ 13 ∷ []
+
+-- the shape of a fragment
+abbrev pub shapeNumbers : List ℕ
+shapeNumbers = 14 ∷ 15 ∷ 16 ∷ 17 ∷ 18 ∷ []
+
+-- the timing of a fragment
+abbrev pub timingNumbers : List ℕ
+timingNumbers = 19 ∷ 20 ∷ 21 ∷ 22 ∷ []
+
+-- the records of a bundle
+abbrev pub recordNumbers : List ℕ
+recordNumbers = 24 ∷ []
+
+-- a track beside track 0 of its set
+abbrev pub setNumbers : List ℕ
+setNumbers = 25 ∷ 26 ∷ 27 ∷ 28 ∷ []
+
+-- what a slice may be refused under before its fragments are looked at
+abbrev pub frontNumbers : List ℕ
+frontNumbers = lengthNumbers ++ framingNumbers ++ orderNumbers ++ headerNumbers
+
+-- what the player meets of a track: all but the timing
+abbrev pub metNumbers : List ℕ
+metNumbers = frontNumbers ++ shapeNumbers
+
+-- all but room that an index, a track and a bundle may be refused under
+abbrev pub indexNumbers : List ℕ
+indexNumbers = lengthNumbers ++ framingNumbers
+
+abbrev pub trackNumbers : List ℕ
+trackNumbers = metNumbers ++ timingNumbers
+
+abbrev pub bundleNumbers : List ℕ
+bundleNumbers = recordNumbers ++ trackNumbers ++ setNumbers
