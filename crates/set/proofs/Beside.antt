@@ -19,8 +19,8 @@ use Rattle.rules.proofs.Then.{then-holds, then-breaks, then-last, then-second, 
 use Rattle.track.specs.Course.{endFrom, endOfTrack, factsOf, Known}
 use Rattle.track.specs.Cursor.{NextAt, endList}
 use Rattle.track.specs.declared.TrackFacts.{TrackFacts}
-use Rattle.track.proofs.Table.{written, boundaries-written, end-last}
-use Rattle.set.specs.Says.{sameEnd, threeOf}
+use Rattle.track.proofs.Table.{written, boundaries-written, end-last, known-count}
+use Rattle.set.specs.Says.{sameEnd}
 
 -- two tracks with one number of fragments have an end both, or neither
 pub data Alike : Previous → Previous → Type 0 where
@@ -109,25 +109,40 @@ module _ (s₀ : List ℕ) {end₀ : Previous} (s : List ℕ) {end : Previous} {
 
 -- the rules in their order, by what is known of both tracks
 module _ (s₀ s : List ℕ) (f₀ f : TrackFacts) (k₀ : Known s₀ f₀) (k : Known s f) where
-  in-order : agrees s₀ s ≡ (threeOf f₀ f (length s) then rule28 s₀ s)
-  unfolding agrees same factsOf handler timescale
-  in-order =
-      rw (k₀ .facts, k .facts)
-      (sym (then-assoc _ _ (rule28 s₀ s) ∙ ap (λ (r : Rule). same 25 handler hdlrAt s₀ s then r) (then-assoc _ _ (rule28 s₀ s))))
+  -- 25 to 27 by the book's names
+  by-name :
+      must (eqb (f .header .handler) (f₀ .header .handler)) 25 (f .hdlr)
+      then must (eqb (f .header .timescale) (f₀ .header .timescale)) 26 (f .mdhd)
+      then must (eqb (f .fragments) (f₀ .fragments)) 27 (length s)
+      ≡ same 25 handler hdlrAt s₀ s then same 26 timescale mdhdAt s₀ s then same 27 fragmentCount length s₀ s
+  unfolding same factsOf handler timescale
+  by-name = rw (k₀ .facts, k .facts)
 
-  module _ {r : Rule} (e : r ≡ threeOf f₀ f (length s)) where
-    -- one of 25 to 27 breaks
+  module _ {r₂₅ r₂₆ r₂₇ r : Rule}
+      (e₂₅ : r₂₅ ≡ must (eqb (f .header .handler) (f₀ .header .handler)) 25 (f .hdlr))
+      (e₂₆ : r₂₆ ≡ must (eqb (f .header .timescale) (f₀ .header .timescale)) 26 (f .mdhd))
+      (e₂₇ : r₂₇ ≡ must (eqb (f .fragments) (f₀ .fragments)) 27 (length s))
+      (e : r ≡ (r₂₅ then (r₂₆ then r₂₇))) where
+    -- they come before 28
+    in-order : agrees s₀ s ≡ (r then rule28 s₀ s)
+    unfolding agrees
+    in-order =
+        sym
+        (ap (λ (q : Rule). q then rule28 s₀ s) (e ∙ ap₂ _then_ e₂₅ (ap₂ _then_ e₂₆ e₂₇) ∙ by-name)
+        ∙ then-assoc _ _ (rule28 s₀ s)
+        ∙ ap (λ (q : Rule). same 25 handler hdlrAt s₀ s then q) (then-assoc _ _ (rule28 s₀ s)))
+
+    -- one of them breaks
     pub facts-break : {n t p : ℕ} → r ≡ Breaks n t p → r ≡ agrees s₀ s
-    facts-break i = i ∙ sym (in-order ∙ then-breaks _ (sym e ∙ i))
+    facts-break i = i ∙ sym (in-order ∙ then-breaks _ i)
 
     -- they hold
     pub only28 : r ≡ Holds → rule28 s₀ s ≡ agrees s₀ s
-    only28 i = sym (in-order ∙ then-holds _ (sym e ∙ i))
+    only28 i = sym (in-order ∙ then-holds _ i)
 
     pub same-count : r ≡ Holds → fragmentCount s ≡ fragmentCount s₀
-    unfolding factsOf
     same-count i =
-        let h : must (eqb (f .fragments) (f₀ .fragments)) 27 (length s) ≡ Holds = then-second _ _ (then-second _ _ (sym e ∙ i)) in
-        sym (ap (λ (g : TrackFacts). g .fragments) (k .facts))
-        ∙ eqb-true (f .fragments) (f₀ .fragments) (must-holds _ 27 (length s) h)
-        ∙ ap (λ (g : TrackFacts). g .fragments) (k₀ .facts)
+        let h : r₂₇ ≡ Holds = then-second r₂₆ r₂₇ (then-second r₂₅ (r₂₆ then r₂₇) (sym e ∙ i)) in
+        sym (known-count s f k)
+        ∙ eqb-true (f .fragments) (f₀ .fragments) (must-holds _ 27 (length s) (sym e₂₇ ∙ h))
+        ∙ known-count s₀ f₀ k₀

@@ -4,13 +4,12 @@ use mathlib.Core.Bool.{Bool, true, false}
 use mathlib.Core.List.{List}
 use lib.Dec.{eqb}
 use Rattle.rules.specs.Limits.{recordLimit}
-use Rattle.rules.specs.Rules.{_then_, must}
+use Rattle.rules.specs.Rules.{_then_}
 use Rattle.rules.specs.Bundle.{tracksOf, recordsFrom}
 use Rattle.rules.specs.Set.{rulings, agree}
 use Rattle.rules.specs.declared.Rule.{Rule}
 use Rattle.rules.specs.declared.Previous.{Previous}
 use Rattle.rules.specs.declared.Previous.the-variants.{Unset, End}
-use Rattle.track.specs.declared.TrackFacts.{TrackFacts}
 
 -- whether two tracks end alike: at the same tick, or neither has a fragment
 abbrev pub sameEnd : Previous → Previous → Bool
@@ -18,13 +17,6 @@ sameEnd Unset Unset = true
 sameEnd Unset (End b) = false
 sameEnd (End a) Unset = false
 sameEnd (End a) (End b) = eqb b a
-
--- 25 to 27 by what is known of track 0 and of a track of so many bytes
-abbrev pub threeOf : TrackFacts → TrackFacts → ℕ → Rule
-threeOf f₀ f n =
-    must (eqb (f .header .handler) (f₀ .header .handler)) 25 (f .hdlr)
-    then must (eqb (f .header .timescale) (f₀ .header .timescale)) 26 (f .mdhd)
-    then must (eqb (f .fragments) (f₀ .fragments)) 27 n
 
 -- the tracks from the k-th on, whose record stands at a place
 abbrev pub restOf : List ℕ → ℕ → ℕ → List (List ℕ)

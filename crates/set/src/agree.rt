@@ -6,7 +6,7 @@ ghost use Rattle.rules.specs.Limits.{byteLimit};
 ghost use Rattle.rules.specs.Track.{fragmentCount};
 ghost use Rattle.rules.specs.Set.{rule28, agrees};
 ghost use Rattle.track.specs.Course.{endOfTrack, Known};
-ghost use Rattle.set.specs.Says.{sameEnd, threeOf};
+ghost use Rattle.set.specs.Says.{sameEnd};
 use rules::Previous;
 use rules::Rule;
 use rules::first_broken;
@@ -63,24 +63,17 @@ fn same_boundaries(s0: &[u8], end0: Previous, s: &[u8], end: Previous) -> Rule
     }
 }
 
-// Rules 25 to 27: handler, timescale and number of fragments are track 0's.
-fn same_facts(s: &[u8], f0: TrackFacts, f: TrackFacts) -> Rule
-    ensures { λ r. ⌜ r ≡ threeOf f0 f (length (now (s .entry))) ⌝ }
+// Rules 25 to 28 of a track beside track 0, both accepted by themselves.
+pub fn agrees(s0: &[u8], f0: TrackFacts, s: &[u8], f: TrackFacts) -> Rule
+    requires { ⌜ Known (now s0) f0 × Known (now s) f ⌝ }
+    ensures { λ r. ⌜ r ≡ agrees (now (s0 .entry)) (now (s .entry)) ⌝ }
 {
     let h0 = f0.header;
     let h = f.header;
     let rule25 = must(h.handler == h0.handler, 25, f.hdlr);
     let rule26 = must(h.timescale == h0.timescale, 26, f.mdhd);
     let rule27 = must(f.fragments == f0.fragments, 27, s.len() as u64);
-    first_broken(rule25, first_broken(rule26, rule27))
-}
-
-// Rules 25 to 28 of a track beside track 0, both accepted by themselves.
-pub fn agrees(s0: &[u8], f0: TrackFacts, s: &[u8], f: TrackFacts) -> Rule
-    requires { ⌜ Known (now s0) f0 × Known (now s) f ⌝ }
-    ensures { λ r. ⌜ r ≡ agrees (now (s0 .entry)) (now (s .entry)) ⌝ }
-{
-    let facts = same_facts(s, f0, f);
+    let facts = first_broken(rule25, first_broken(rule26, rule27));
     match facts {
         Rule::Breaks { .. } => facts,
         Rule::Holds => {

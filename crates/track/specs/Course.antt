@@ -11,7 +11,7 @@ use Rattle.rules.specs.Rules.{_then_}
 use Rattle.rules.specs.Boxes.{Box, boxes, whole}
 use Rattle.rules.specs.Order.{ordered}
 use Rattle.rules.specs.Header.{headerRules, ftypIn, headerIn, placesIn}
-use Rattle.rules.specs.Track.{headerOf, fragments, fragmentCount, shapeAt, timingAt, endAt, ruling}
+use Rattle.rules.specs.Track.{headerOf, fragments, fragmentCount, timescale, boundaries, shapeAt, timingAt, endAt, ruling, Outcome, roomFor}
 use Rattle.rules.specs.Set.{mdhdAt, hdlrAt}
 use Rattle.rules.specs.declared.Ftyp.{Ftyp}
 use Rattle.rules.specs.declared.Header.{Header}
@@ -129,6 +129,10 @@ judgement s = judgedBy (ruling s) (factsOf s)
 pub record Known (s : List ℕ) (f : TrackFacts) : Type 0 where
   pub holds : ruling s ≡ Holds
   pub facts : f ≡ factsOf s
+
+-- the outcome of an accepted track: room, and the boundaries
+abbrev pub roomOf : List ℕ → List ℕ → Outcome
+roomOf s t = roomFor (fragmentCount s) (timescale s) (boundaries s) t
 
 -- fragments so far are no more than the bytes so far
 abbrev pub Few : Judged → ℕ → Type 0

@@ -6,8 +6,8 @@ ghost use lib.ListN.{length, drop};
 ghost use lib.Seq.{sets};
 ghost use Rattle.rules.specs.Limits.{byteLimit};
 ghost use Rattle.rules.specs.Jobs.{Permits};
-ghost use Rattle.rules.specs.Track.{fragmentCount, timescale, boundaries, roomFor, trackOutcome};
-ghost use Rattle.track.specs.Course.{endOfTrack, judgement, Known};
+ghost use Rattle.rules.specs.Track.{boundaries, trackOutcome};
+ghost use Rattle.track.specs.Course.{endOfTrack, judgement, Known, roomOf};
 ghost use Rattle.track.specs.Cursor.{endList};
 use boxes::Spot;
 use course::Course;
@@ -126,7 +126,7 @@ fn write_boundaries(s: &[u8], end: Previous, t: &mut [u64])
 // An accepted track: room, and the boundaries.
 pub fn accept(s: &[u8], f: TrackFacts, t: &mut [u64]) -> Verdict
     requires { ⌜ Known (now s) f ⌝ }
-    ensures { λ r. ⌜ record { verdict = r; table = now (t .exit) } ≡ roomFor (fragmentCount (now (s .entry))) (timescale (now (s .entry))) (boundaries (now (s .entry))) (now (t .entry)) ⌝ }
+    ensures { λ r. ⌜ Permits roomOf (now (s .entry)) (now (t .entry)) r (now (t .exit)) ⌝ }
 {
     if (t.len() as u64) <= f.fragments {
         return refused(23, 0, 0);

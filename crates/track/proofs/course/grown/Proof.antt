@@ -12,7 +12,7 @@ check-requires c κs =
     let b = c .before .before .before .before in
     let s = now (b .args .s) in
     let d = b .pre .0 in
-    (own-whole s (b .args .moof) (d .0) _ (d .2), omega (arith, own-length s (b .args .moof) (d .0) _ (d .2), d .0 .fits, b .pre .1), d .1 .high)
+    (own-whole s (b .args .moof) (d .0) _ (d .2), omega (arith, own-length s (b .args .moof) (d .0) _ (d .2), d .0 .fits, b .pre .1), omega (arith, d .0 .high, d .1 .high))
 
 add-t24 : tie.Need-add-t24
 add-t24 c =
