@@ -8,6 +8,7 @@ ghost use Rattle.rules.specs.Boxes.{forest};
 ghost use Rattle.rules.specs.Framing.{framing, framed, rows};
 ghost use Rattle.rules.specs.Jobs.{Permits};
 ghost use Rattle.rules.specs.Track.{indexOutcome};
+ghost use Rattle.rules.specs.declared.Path.the-variants.{Top};
 ghost use Rattle.framing.specs.Steps.{Placed, Read, brokenAt, passedTo, Writes};
 use rules::Framing;
 use rules::Inside;
@@ -69,7 +70,7 @@ fn passed(inner: Framing, head: usize, size: usize, kind: u32) -> Step
 }
 
 // Reads the box at a place of a run whose slice starts at a base, with n boxes before it, and what is inside it.
-pub fn read_box(s: &[u8], at: usize, path: Path, base: usize, n: usize) -> Step
+fn read_box(s: &[u8], at: usize, path: Path, base: usize, n: usize) -> Step
     requires { ⌜ Placed base (now s) ⌝ }
     ensures { λ r. ⌜ Read r (now (s .entry)) at path base n ⌝ }
 {
@@ -119,6 +120,38 @@ pub fn read_run(s: &[u8], path: Path, base: usize, n: usize) -> Framing
             }
         }
     }
+}
+
+// Reads the box at a place of the top level, with n boxes before it, and what is inside it.
+pub fn top_box(s: &[u8], at: usize, n: usize) -> Step
+    requires { ⌜ Placed 0 (now s) ⌝ }
+    ensures { λ r. ⌜ Read r (now (s .entry)) at Top 0 n ⌝ }
+{
+    if s.len() <= at {
+        return Step::End;
+    }
+    if BOX_LIMIT <= n {
+        return Step::Refused {
+            number: 5,
+            place: at,
+        };
+    }
+    let l = boxes::look(s, at);
+    let Look::Header { head, size, kind } = l else {
+        return broken(l, at);
+    };
+    let next = at + size;
+    let Inside::Holds(inner) = boxes::inside(Path::Top, kind) else {
+        return Step::Past {
+            head,
+            size,
+            kind,
+            boxes: n + 1,
+        };
+    };
+    let from = at + head;
+    let framed = read_run(&s[from..next], inner, from, n + 1);
+    passed(framed, head, size, kind)
 }
 
 // How a whole slice is framed: rules 2 to 5.

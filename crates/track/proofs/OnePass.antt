@@ -105,16 +105,16 @@ unfolding seenFrom
 first-stays [] i = since-first i
 first-stays (x ∷ xs) i = first-stays xs (since-again (wanted (One moov) (x .kind)) (x .at) i)
 
--- a type that the order doesn't speak of is no `moof`
-or-third : (a b c d : Bool) → (a || b || c || d) ≡ false → c ≡ false
-or-third true b c d e = absurd (true≢false e)
-or-third false true c d e = absurd (true≢false e)
-or-third false false true d e = absurd (true≢false e)
-or-third false false false d e = refl
+-- a type that the order doesn't speak of is no `moov` and no `moof`
+or-inner : (a b c d : Bool) → (a || b || c || d) ≡ false → (b ≡ false) × (c ≡ false)
+or-inner true b c d e = absurd (true≢false e)
+or-inner false true c d e = absurd (true≢false e)
+or-inner false false true d e = absurd (true≢false e)
+or-inner false false false d e = (refl, refl)
 
-no-moof : (k : ℕ) → ordered k ≡ false → eqb k moof ≡ false
+pub unspoken : (k : ℕ) → ordered k ≡ false → (eqb k moov ≡ false) × (eqb k moof ≡ false)
 unfolding ordered
-no-moof k e = or-third (eqb k ftyp) (eqb k moov) (eqb k moof) (eqb k mdat) e
+unspoken k e = or-inner (eqb k ftyp) (eqb k moov) (eqb k moof) (eqb k mdat) e
 
 -- boxes whose first is a `moof`, and is none
 moof-hit : (x : Box) (xs : List Box) → eqb (x .kind) moof ≡ true → placesOf moof (x ∷ xs) ≡ x .at ∷ placesOf moof xs
@@ -185,7 +185,7 @@ module _ (s : List ℕ) (len : ℕ) (x : Box) (xs : List Box) where
       by false true p q = refl
       by false false p q =
           ap₂ (λ (at : ℕ) (ps : List ℕ). behind (orderFrom len stage.Typed xs) (all s (opened s f at) ps))
-          (moov-miss x xs p) (moof-miss x xs (no-moof (x .kind) q))
+          (moov-miss x xs p) (moof-miss x xs (unspoken (x .kind) q .1))
   step (Headed j) = awaits-moof stage.Headed (Headed j) j refl
   step (Halved j m) = by (eqb (x .kind) mdat) refl
     where

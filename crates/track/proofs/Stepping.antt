@@ -1,7 +1,7 @@
 -- Laws of one box more: the header and a fragment by what their own checks answer, and what a course fits.
 use mathlib.Core.Path.{_≡_, refl, sym, ap, ap₂, _∙_}
 use mathlib.Core.List.{List}
-use mathlib.Core.Bool.{Bool, true, false}
+use mathlib.Core.Bool.{Bool, true, false, not, true≢false}
 use Prim.Native.Nat.{ℕ, _+_, _-_, _≤_}
 use native.Mathlib.Omega.{arith}
 use lib.ListN.{length}
@@ -24,7 +24,8 @@ use Rattle.boxes.specs.Stands.{Stands}
 use Rattle.boxes.specs.declared.Spot.{Spot}
 use Rattle.header.specs.Answers.{FactsIn}
 use Rattle.header.specs.declared.HeaderFacts.{HeaderFacts}
-use Rattle.track.specs.Course.{judgedBy, openedFacts, opened, grown, joined, passing, awaiting, spotOf, after, Few, Fits}
+use Rattle.track.specs.Course.{judgedBy, openedFacts, opened, grown, joined, passing, awaiting, spotOf, boxOf, after, Few, Fits, saysPasses}
+use Rattle.track.proofs.OnePass.{unspoken}
 use Rattle.track.specs.declared.TrackFacts.{TrackFacts}
 use Rattle.track.specs.declared.Judged.{Judged}
 use Rattle.track.specs.declared.Judged.the-variants.{Accepted, Refused}
@@ -140,3 +141,29 @@ module _ (s : List ℕ) (x : Box) (w : Stands s (spotOf x)) where
       by false = tt
   fits-after (Paired j) h = fits-awaiting (Paired j) j h (few-later j (x .at) (x .at + x .size) (omega arith) h)
   fits-after (Broken p) h = tt
+
+-- a box that the order doesn't speak of is passed over where `moov` or a `moof` is awaited
+pub passes-typed : (f : Ftyp) (k : ℕ) (o : Bool) → o ≡ ordered k → saysPasses (not o) (Typed f) k
+unfolding after passing
+passes-typed f k true e = tt
+passes-typed f k false e = λ s b. rw (unspoken k (sym e) .0, ← e)
+
+pub passes-headed : (j : Judged) (k : ℕ) (o : Bool) → o ≡ ordered k → saysPasses (not o) (Headed j) k
+unfolding after awaiting passing
+passes-headed j k true e = tt
+passes-headed j k false e = λ s b. rw (unspoken k (sym e) .1, ← e)
+
+pub passes-paired : (j : Judged) (k : ℕ) (o : Bool) → o ≡ ordered k → saysPasses (not o) (Paired j) k
+unfolding after awaiting passing
+passes-paired j k true e = tt
+passes-paired j k false e = λ s b. rw (unspoken k (sym e) .1, ← e)
+
+-- where the order is broken every box is
+pub passes-broken : (p k : ℕ) → saysPasses true (Broken p) k
+unfolding after
+passes-broken p k = λ s b. refl
+
+-- a box that is passed over leaves a course as it is
+pub passed-over : (o : Bool) (c : Course) (k : ℕ) → saysPasses o c k → not o ≡ false → (s : List ℕ) (b : Spot) → after s c (boxOf b k) ≡ c
+passed-over true c k h e = h
+passed-over false c k h e = absurd (true≢false e)

@@ -3,6 +3,7 @@
 use Prim.Native.Nat.{ℕ, _+_, _≤_}
 use mathlib.Core.Path.{_≡_}
 use mathlib.Core.List.{List, [], _∷_}
+use mathlib.Core.Bool.{Bool, true, false}
 use lib.ListN.{length}
 use lib.Dec.{eqb}
 use Rattle.numbers.specs.Numbers.{when}
@@ -82,6 +83,11 @@ after s (Headed j) x = awaiting (Headed j) j x
 after s (Halved j m) x = when (eqb (x .kind) mdat) (Paired (joined s j (m .at))) (Broken (x .at))
 after s (Paired j) x = awaiting (Paired j) j x
 after s (Broken p) x = Broken p
+
+-- a box of a type is passed over: wherever it stands, it leaves a course as it is
+abbrev pub saysPasses : Bool → Course → ℕ → Type 0
+saysPasses true c k = (s : List ℕ) (b : Spot) → after s c (boxOf b k) ≡ c
+saysPasses false c k = Unit {0}
 
 -- all the boxes of a run, one after the other
 unfoldable pub courseFrom : List ℕ → Course → List Box → Course

@@ -9,7 +9,7 @@ ghost use Rattle.rules.specs.Boxes.{whole};
 ghost use Rattle.rules.specs.Header.{ftypIn};
 ghost use Rattle.track.specs.declared.Judged.the-variants.{Accepted, Refused};
 ghost use Rattle.track.specs.declared.course.Course.the-variants.{Typed};
-ghost use Rattle.track.specs.Course.{opened, joined, boxOf, passing, awaiting, after, ended, Few, Fits};
+ghost use Rattle.track.specs.Course.{opened, joined, boxOf, passing, awaiting, after, ended, Few, Fits, saysPasses};
 use crate::Judged;
 use crate::TrackFacts;
 use boxes::Spot;
@@ -159,6 +159,20 @@ fn joined(s: &[u8], sofar: Judged, moof: Spot, mdat: Spot) -> Judged
             track,
             place,
         },
+    }
+}
+
+// Whether a box of a type is passed over and leaves what was come to as it is.
+pub fn passes(course: Course, kind: u32) -> bool
+    ensures { λ r. ⌜ saysPasses r course kind ⌝ }
+{
+    match course {
+        Course::Start => false,
+        Course::Typed(_) => !ordered(kind),
+        Course::Headed(_) => !ordered(kind),
+        Course::Halved(_, _) => false,
+        Course::Paired(_) => !ordered(kind),
+        Course::Broken(_) => true,
     }
 }
 

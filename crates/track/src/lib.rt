@@ -16,7 +16,6 @@ use cursor::next_fragment;
 use framing::BYTE_LIMIT;
 use framing::Step;
 use rules::Header;
-use rules::Path;
 use rules::Previous;
 use rules::Verdict;
 
@@ -53,14 +52,16 @@ pub fn judge(s: &[u8]) -> Judged
     let mut count: usize = 0;
     let mut course = Course::Start;
     loop {
-        match framing::read_box(s, at, Path::Top, 0, count) {
+        match framing::top_box(s, at, count) {
             Step::Past {
                 head,
                 size,
                 kind,
                 boxes,
             } => {
-                course = course::after(s, course, Spot { at, head, size }, kind);
+                if !course::passes(course, kind) {
+                    course = course::after(s, course, Spot { at, head, size }, kind);
+                }
                 at += size;
                 count = boxes;
             }

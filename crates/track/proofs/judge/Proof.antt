@@ -1,5 +1,7 @@
 -- `track::judge` meets its contract. Assumes nothing.
 use Prim.Native.Nat.{_-_}
+use mathlib.Core.Path.{subst}
+use mathlib.Core.Logic.{⊎-elim}
 use native.Mathlib.Omega.{arith}
 use lib.ListN.{length}
 use borrow.Author.Needs.{needs}
@@ -8,6 +10,7 @@ use Rattle.rules.proofs.Forest.{look-found}
 use Rattle.boxes.proofs.Stands.{stands-here}
 use Rattle.framing.proofs.Steps.{known}
 use Rattle.track.proofs.Judging.{Going, going-begins, too-long, going-on, going-ends, going-breaks}
+use Rattle.track.proofs.Stepping.{passed-over}
 use Rattle.track.proofs.judge.Statement.{statement}
 use Rattle.track.proofs.judge.Tie as tie
 
@@ -23,38 +26,41 @@ returns c = too-long (now (c .before .before .args .s)) (c .if1 .taken)
 loop-holds : tie.Need-loop-holds Inv-loop μ-loop
 loop-holds c = going-begins _
 
-read-box-requires : tie.Need-read-box-requires Inv-loop μ-loop
-read-box-requires c κs = omega (arith, c .before .if1 .left)
+top-box-requires : tie.Need-top-box-requires Inv-loop μ-loop
+top-box-requires c κs = omega (arith, c .before .if1 .left)
 
 after-requires : tie.Need-after-requires Inv-loop μ-loop
 after-requires c κs =
-    let k = known _ _ _ _ _ (c .before .head .given .1) (c .before .before .before .read-box .ensures) in
-    (c .before .before .before .before .loop .inv .fits, stands-here (look-found _ _ _ _ _ (k .1)), c .before .before .before .before .before .if1 .left)
+    let k = known _ _ _ _ _ (c .before .before .before .head .given .1) (c .before .before .before .before .before .top-box .ensures) in
+    (c .before .before .before .before .before .before .loop .inv .fits, stands-here (look-found _ _ _ _ _ (k .1)), c .before .before .before .before .before .before .before .if1 .left)
 
 add-at : tie.Need-add-at Inv-loop μ-loop
 add-at c =
-    let k = known _ _ _ _ _ (c .before .before .head .given .1) (c .before .before .before .before .read-box .ensures) in
+    let k = known _ _ _ _ _ (c .before .before .before .head .given .1) (c .before .before .before .before .before .top-box .ensures) in
     omega (arith, look-found _ _ _ _ _ (k .1))
 
 loop-less : tie.Need-loop-less Inv-loop μ-loop
 loop-less c =
-    let k = known _ _ _ _ _ (c .before .before .head .given .1) (c .before .before .before .before .read-box .ensures) in
+    let k = known _ _ _ _ _ (c .before .before .before .head .given .1) (c .before .before .before .before .before .top-box .ensures) in
     omega (arith, look-found _ _ _ _ _ (k .1))
 
 loop-again : tie.Need-loop-again Inv-loop μ-loop
 loop-again c =
-    let k = known _ _ _ _ _ (c .before .before .head .given .1) (c .before .before .before .before .read-box .ensures) in
-    rw (c .after .ensures) (going-on _ (c .before .before .before .before .before .loop .inv) (k .0) (k .1))
+    let k = known _ _ _ _ _ (c .before .before .before .head .given .1) (c .before .before .before .before .before .top-box .ensures) in
+    let g = going-on _ (c .before .before .before .before .before .before .loop .inv) (k .0) (k .1) in
+    ⊎-elim (λ x. rw (x .2, x .1 .ensures) g)
+    (λ x. rw (x .1) (subst (Going _ _ _) (passed-over (c .before .passes .result) _ _ (c .before .passes .ensures) (x .0 .left) _ _) g))
+    (c .if2 .came)
 
 returns-2 : tie.Need-returns-2 Inv-loop μ-loop
 returns-2 c =
-    let k = known _ _ _ _ _ (c .before .enum-told .given .1) (c .before .before .before .read-box .ensures) in
+    let k = known _ _ _ _ _ (c .before .enum-told .given .1) (c .before .before .before .top-box .ensures) in
     going-ends _ (c .before .before .before .before .loop .inv) (c .before .before .before .before .before .if1 .left) (k .0) (k .1) (c .ended .ensures)
 
 returns-3 : tie.Need-returns-3 Inv-loop μ-loop
 returns-3 c =
     going-breaks _ (c .before .before .before .before .loop .inv) (c .before .before .before .before .before .if1 .left)
-    (known _ _ _ _ _ (c .before .number .given .1) (c .before .before .before .read-box .ensures))
+    (known _ _ _ _ _ (c .before .number .given .1) (c .before .before .before .top-box .ensures))
 
 pub judge-spec : {M : Type 1} → statement M
 judge-spec =
@@ -64,8 +70,9 @@ judge-spec =
     μ-loop
     returns
     loop-holds
-    read-box-requires
+    top-box-requires
     (λ c. search needs)
+    (λ c κs. search needs)
     after-requires
     add-at
     loop-less

@@ -1,0 +1,57 @@
+-- `framing::top_box` meets its contract. Assumes nothing.
+use mathlib.Core.Path.{_≡_, sym, ap, _∙_}
+use native.Mathlib.Nat.{zero-add}
+use native.Mathlib.Omega.{arith}
+use borrow.Author.Needs.{needs}
+use denote.Ref.{now}
+use Rattle.rules.specs.declared.Path.the-variants.{Top}
+use Rattle.rules.specs.declared.Framing.the-variants.{Misframed}
+use Rattle.framing.proofs.Steps.{at-end, at-limit, told, body-length, reads-broken, reads-leaf, reads-container}
+use Rattle.framing.proofs.top_box.Statement.{statement}
+use Rattle.framing.proofs.top_box.Tie as tie
+
+returns : tie.Need-returns
+returns c = at-end _ _ _ _ _ (c .if1 .taken)
+
+returns-2 : tie.Need-returns-2
+returns-2 c = at-limit _ _ _ _ _ (c .before .if1 .left) (c .if2 .taken) ∙ ap (Misframed 5) (zero-add _)
+
+returns-3 : tie.Need-returns-3
+returns-3 c =
+    let a = c .before .before .before .before .before .before .args in
+    reads-broken Top (now (a .s)) (a .at) 0 (a .n) (c .before .before .look .result) (c .broken .result) (sym (c .before .before .look .ensures .0)) (c .before .match .keys2) (c .before .before .before .if2 .left)
+    (rw (zero-add (a .at)) (c .broken .ensures))
+
+add-next : tie.Need-add-next
+add-next c = omega (arith, told (c .before .before .before .look .ensures .0) (c .before .l .given .1))
+
+returns-4 : tie.Need-returns-4
+returns-4 c =
+    reads-leaf _ _ _ _ _ (c .before .before .before .before .before .before .before .if2 .left) (c .before .before .before .before .before .before .look .ensures .0) (c .before .before .before .before .l .given .1)
+    (c .before .before .inside .ensures) (c .enum-told .given .1)
+
+add-from : tie.Need-add-from
+add-from c = omega (arith, told (c .before .before .before .before .before .before .before .look .ensures .0) (c .before .before .before .before .before .l .given .1))
+
+sub-read-run : tie.Need-sub-read-run
+sub-read-run c = omega (arith, told (c .before .before .before .before .before .before .before .look .ensures .0) (c .before .before .before .before .before .l .given .1))
+
+part-read-run-start : tie.Need-part-read-run-start
+part-read-run-start c = omega (arith, told (c .before .before .before .before .before .before .before .look .ensures .0) (c .before .before .before .before .before .l .given .1))
+
+part-read-run-end : tie.Need-part-read-run-end
+part-read-run-end c = omega (arith, told (c .before .before .before .before .before .before .before .look .ensures .0) (c .before .before .before .before .before .l .given .1))
+
+read-run-requires : tie.Need-read-run-requires
+read-run-requires c κs =
+    let f = told (c .before .before .before .before .before .before .before .before .look .ensures .0) (c .before .before .before .before .before .before .l .given .1) in
+    omega (arith, body-length f)
+
+returns-5 : tie.Need-returns-5
+returns-5 c =
+    let a = c .before .before .before .before .before .before .before .before .before .before .before .before .before .before .args in
+    reads-container Top (now (a .s)) (a .at) 0 (a .n) (c .before .before .before .before .before .before .before .before .before .before .before .if2 .left) (c .before .before .before .before .before .before .before .before .before .before .look .ensures .0) (c .before .before .before .before .before .before .before .before .l .given .1)
+    (c .before .before .before .before .before .before .inside .ensures) (c .before .read-run .result) (c .passed .result) (c .before .before .before .before .inner .given .1) (rw (zero-add (a .at)) (c .before .read-run .ensures)) (c .passed .ensures)
+
+pub top-box-spec : {M : Type 1} → statement M
+top-box-spec = tie.close (tie.spec returns returns-2 (λ c κs. search needs) (λ c. search needs) (λ c κs. search needs) returns-3 add-next (λ c κs. search needs) (λ c. search needs) (λ c. search needs) (λ c. search needs) returns-4 add-from sub-read-run part-read-run-start part-read-run-end (λ c. search needs) read-run-requires (λ c κs. search needs) returns-5)
