@@ -1,4 +1,4 @@
-// Boxes in bytes: one header, the containers, the sibling boxes of a type.
+// Boxes in bytes: one header, the containers, where a box stands.
 pub mod kinds;
 
 use kinds::DINF;
@@ -19,7 +19,6 @@ ghost use Prim.Native.Nat.{_-_, _≤_};
 ghost use lib.ListN.{length};
 ghost use Rattle.rules.specs.Boxes.{look, sized, inside};
 ghost use Rattle.boxes.specs.Bounds.{lookBounds};
-ghost use Rattle.boxes.specs.Siblings.{nextOf};
 
 // A header of some bytes that says a size, at a place of a slice of a length. The size is compared with the bytes that are left:
 // its sum with the place may not fit.
@@ -104,28 +103,4 @@ pub struct Spot {
     pub at: usize,
     pub head: usize,
     pub size: usize,
-}
-
-// The next box of a type: its place and where it ends.
-pub enum Next {
-    At { place: usize, next: usize },
-    Nothing,
-}
-
-// The next sibling box of a type from a place on.
-pub fn next_of(s: &[u8], at: usize, kind: u32) -> Next
-    ensures { λ r. ⌜ nextOf r (now (s .entry)) at kind ⌝ }
-{
-    let mut here = at;
-    loop {
-        let l = look(s, here);
-        let Look::Header { size, kind: k, .. } = l else {
-            return Next::Nothing;
-        };
-        let next = here + size;
-        if k == kind {
-            return Next::At { place: here, next };
-        }
-        here = next;
-    }
 }

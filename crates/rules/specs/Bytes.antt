@@ -2,7 +2,8 @@
 use Prim.Native.Nat.{ℕ, _+_, _/_, _%_}
 use mathlib.Core.List.{List, [], _∷_, _++_}
 use lib.ListN.{length, replicate}
-use Rattle.rules.specs.Kinds.{ftyp, moov, mvhd, trak, tkhd, mdia, mdhd, hdlr, minf, vmhd, dinf, dref, stbl, stsd, stts, stsc, stsz, stco, mvex, trex, moof, mfhd, traf, tfhd, tfdt, trun, mdat, cmfc, vide}
+use Rattle.rules.specs.Kinds.{ftyp, moov, mvhd, trak, tkhd, mdia, mdhd, hdlr, minf, vmhd, dinf, dref, stbl, stsd}
+use Rattle.rules.specs.Kinds.{stts, stsc, stsz, stco, mvex, trex, moof, mfhd, traf, tfhd, tfdt, trun, mdat, cmfc, vide}
 
 -- a number as four bytes, and as eight
 unfoldable pub in4 : ℕ → List ℕ

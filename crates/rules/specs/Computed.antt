@@ -16,5 +16,6 @@ use Rattle.numbers.specs.Numbers.{computedNumbers}
 
 -- a mark, and no statement
 unfoldable pub computed : Unit {0}
-unfolding computedRules computedBoxes computedFraming computedOrder computedCounts computedFields computedHeader computedFragment computedTrack computedBundle computedSet computedPlayer computedBytes computedNumbers
+unfolding computedRules computedBoxes computedFraming computedOrder computedCounts computedFields computedHeader computedFragment
+    computedTrack computedBundle computedSet computedPlayer computedBytes computedNumbers
 computed = tt

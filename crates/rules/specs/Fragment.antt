@@ -239,5 +239,7 @@ timing m d head payload prev = rule19 m prev then rule20 m d then rule21 m d the
 
 -- the mark of this file: its definitions unfold wherever it does
 unfoldable pub computedFragment : Unit {0}
-unfolding mfhdIn trafIn tfhdIn tfdtIn firstRun runsIn rule14 bytesFor tfhdSize runHead stride countOf runSize rule15runs rule15 rule16runs flagged rule16 rule17 samplesOf rule18 shape startOf defaultsIn sampleAt durationOf bytesOf firstFlagsOf sumTo runDuration runBytes durationsOf bytesIn firstFlags durationIn endOf syncIn follows rule19 rule20 rule21 offsetIs placed rule22runs rule22 timing
+unfolding mfhdIn trafIn tfhdIn tfdtIn firstRun runsIn rule14 bytesFor tfhdSize runHead stride countOf runSize rule15runs rule15 rule16runs
+    flagged rule16 rule17 samplesOf rule18 shape startOf defaultsIn sampleAt durationOf bytesOf firstFlagsOf sumTo runDuration runBytes
+    durationsOf bytesIn firstFlags durationIn endOf syncIn follows rule19 rule20 rule21 offsetIs placed rule22runs rule22 timing
 computedFragment = tt

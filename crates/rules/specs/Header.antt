@@ -212,5 +212,6 @@ headerIn m = headerBy m (placesIn m)
 
 -- the mark of this file: its definitions unfold wherever it does
 unfoldable pub computedHeader : Unit {0}
-unfolding trakIn mdiaIn minfIn dinfIn stblIn mvexIn rule7 placesIn branded brands ftypIn rule8ftyp rule8 rule9 rule10 rule11 pairs rule12 rule13 rulesOfValues headerRules trexDefaults headerBy
+unfolding trakIn mdiaIn minfIn dinfIn stblIn mvexIn rule7 placesIn branded brands ftypIn rule8ftyp rule8 rule9 rule10 rule11 pairs rule12
+    rule13 rulesOfValues headerRules trexDefaults headerBy
 computedHeader = tt

@@ -147,5 +147,6 @@ trackOutcome s t =
 
 -- the mark of this file: its definitions unfold wherever it does
 unfoldable pub computedTrack : Unit {0}
-unfolding rule1 moovAt moovOf ftypOf headerOf fragmentsFrom mdatAt shapeAt timingAt startAt endAt rulesOfFragments rulesOfHeader ruling fragmentCount timescale lastEnd ticks boundaries refused accepted roomFor index indexOutcome trackOutcome
+unfolding rule1 moovAt moovOf ftypOf headerOf fragmentsFrom mdatAt shapeAt timingAt startAt endAt rulesOfFragments rulesOfHeader ruling
+    fragmentCount timescale lastEnd ticks boundaries refused accepted roomFor index indexOutcome trackOutcome
 computedTrack = tt

@@ -1,8 +1,6 @@
 // The types that the written rules and the code share, and how the code puts rules together. The rules themselves are definitions: see specs/.
 ghost use mathlib.Core.Path.{_≡_};
-ghost use Prim.Native.Nat.{_≤_};
-ghost use Rattle.rules.specs.Limits.{byteLimit};
-ghost use Rattle.rules.specs.Rules.{_then_, must, ofTrack, moved, placedUpTo};
+ghost use Rattle.rules.specs.Rules.{_then_, must, ofTrack};
 
 // Where a run of boxes stands: at the top, in a container that holds containers, or in any other.
 pub enum Path {
@@ -178,25 +176,6 @@ pub fn of_track(k: u64, rule: Rule) -> Rule
             number,
             track: k,
             place,
-        },
-    }
-}
-
-// A rule over the bytes of a box, moved to where the box stands.
-pub fn moved(base: usize, rule: Rule) -> Rule
-    requires { ⌜ (base ≤ byteLimit) × placedUpTo byteLimit rule ⌝ }
-    ensures { λ r. ⌜ r ≡ moved base rule ⌝ }
-{
-    match rule {
-        Rule::Holds => Rule::Holds,
-        Rule::Breaks {
-            number,
-            track,
-            place,
-        } => Rule::Breaks {
-            number,
-            track,
-            place: base as u64 + place,
         },
     }
 }
