@@ -1,14 +1,14 @@
 -- Laws of rules 25 to 28: the boundaries side by side, and the rules in their order.
 use mathlib.Core.Path.{_≡_, refl, sym, ap, ap₂, _∙_}
-use mathlib.Core.List.{List, [], _∷_, _++_}
-use mathlib.Core.Bool.{Bool, true, false}
-use Prim.Native.Nat.{ℕ, _+_, _≤_}
+use mathlib.Core.List.{List, [], _∷_}
+use mathlib.Core.Bool.{false}
+use Prim.Native.Nat.{ℕ, _≤_}
 use native.Mathlib.Omega.{arith}
 use lib.ListN.{length}
 use lib.Dec.{eqb}
 use borrow.Author.Tests.{eq-eqb, ne-eqb, eqb-true}
 use Rattle.rules.specs.Rules.{_then_, must}
-use Rattle.rules.specs.Track.{headerOf, fragments, fragmentsFrom, fragmentCount, timescale, startAt, endAt, lastEnd}
+use Rattle.rules.specs.Track.{headerOf, fragments, fragmentsFrom, fragmentCount, timescale}
 use Rattle.rules.specs.Set.{handler, hdlrAt, mdhdAt, same, rule28, rule28From, agrees}
 use Rattle.rules.specs.declared.Header.{Header}
 use Rattle.rules.specs.declared.Previous.{Previous}

@@ -13,7 +13,7 @@ use Rattle.numbers.specs.Numbers.{when}
 use Rattle.rules.specs.Limits.{recordLimit}
 use Rattle.rules.specs.Boxes.{part}
 use Rattle.rules.specs.Rules.{_then_, ofTrack}
-use Rattle.rules.specs.Bundle.{recordAt, none, wrong, track, tracksOf}
+use Rattle.rules.specs.Bundle.{recordAt, none, wrong, tracksOf}
 use Rattle.rules.specs.Track.{ruling}
 use Rattle.rules.specs.Set.{rulings, agrees, agree}
 use Rattle.rules.proofs.Then.{then-holds, then-breaks, then-assoc, then-last}

@@ -1,24 +1,20 @@
 -- Laws of the walk along the top level: what is left of framing and of the course, and what the whole comes to.
-use mathlib.Core.Path.{_≡_, refl, sym, ap, ap₂, _∙_}
-use mathlib.Core.List.{List, [], _∷_}
+use mathlib.Core.Path.{_≡_, refl, sym, ap, _∙_}
+use mathlib.Core.List.{List, []}
 use Prim.Native.Nat.{ℕ, _+_, _≤_, _<_}
 use native.Mathlib.Omega.{arith}
 use lib.ListN.{length}
 use borrow.Author.Tests.{le-leb, lt-leb}
 use Rattle.rules.specs.Limits.{byteLimit}
-use Rattle.rules.specs.Rules.{_then_}
 use Rattle.rules.specs.Boxes.{Box, look, boxes, forest}
-use Rattle.rules.specs.Framing.{framing, framed, framingRule, rulesOfFraming}
-use Rattle.rules.specs.Order.{rule6}
-use Rattle.rules.specs.Track.{rule1, rulesOfHeader, headerOf, rulesOfFragments, fragments, ruling}
-use Rattle.rules.specs.declared.Framing.{Framing}
+use Rattle.rules.specs.Framing.{framing, framed, framingRule}
+use Rattle.rules.specs.Track.{rule1, ruling}
 use Rattle.rules.specs.declared.Framing.the-variants.{Framed, Misframed}
 use Rattle.rules.specs.declared.Look.the-variants.{Header}
 use Rattle.rules.specs.declared.Path.the-variants.{Top}
-use Rattle.rules.specs.declared.Previous.the-variants.{Unset}
 use Rattle.rules.specs.declared.Rule.{Rule}
-use Rattle.rules.specs.declared.Rule.the-variants.{Holds, Breaks}
-use Rattle.rules.proofs.Forest.{Found, look-found, boxes-box}
+use Rattle.rules.specs.declared.Rule.the-variants.{Holds}
+use Rattle.rules.proofs.Forest.{look-found, boxes-box}
 use Rattle.rules.proofs.Then.{then-holds, then-breaks, must-true, must-false}
 use Rattle.boxes.proofs.Stands.{stands-here}
 use Rattle.track.specs.Course.{judgedBy, after, courseFrom, ended, courseOf, factsOf, judgement, Fits}

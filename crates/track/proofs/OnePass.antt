@@ -14,16 +14,13 @@ use Rattle.rules.specs.Rules.{_then_}
 use Rattle.rules.specs.Boxes.{Box, boxes, placesOf, whole}
 use Rattle.rules.specs.Counts.{wanted, again, seen, seenFrom, firstOf}
 use Rattle.rules.specs.Order.{ordered, awaits, step6, onStepped, orderFrom, rule6}
-use Rattle.rules.specs.Header.{headerRules, ftypIn, headerIn, placesIn}
+use Rattle.rules.specs.Header.{ftypIn}
 use Rattle.rules.specs.Track.{moovAt, moovOf, ftypOf, headerOf, fragmentsFrom, fragments, fragmentCount, shapeAt, timingAt, endAt, rulesOfFragments, rulesOfHeader}
 use Rattle.rules.specs.Set.{mdhdAt, hdlrAt}
 use Rattle.rules.specs.declared.Entry.the-variants.{One}
-use Rattle.rules.specs.declared.Ftyp.{Ftyp}
-use Rattle.rules.specs.declared.Header.{Header}
-use Rattle.rules.specs.declared.Previous.{Previous}
 use Rattle.rules.specs.declared.Previous.the-variants.{Unset, End}
 use Rattle.rules.specs.declared.Seen.{Seen}
-use Rattle.rules.specs.declared.Seen.the-variants.{Never, Once, Twice}
+use Rattle.rules.specs.declared.Seen.the-variants.{Once, Twice}
 use Rattle.rules.specs.declared.Stage.{Stage}
 use Rattle.rules.specs.declared.Stage.the-variants as stage
 use Rattle.rules.specs.declared.Stepped.the-variants as stepped

@@ -1,5 +1,5 @@
 -- Laws of one box more: the header and a fragment by what their own checks answer, and what a course fits.
-use mathlib.Core.Path.{_≡_, refl, sym, ap, ap₂, _∙_}
+use mathlib.Core.Path.{_≡_, refl, sym, ap, _∙_}
 use mathlib.Core.List.{List}
 use mathlib.Core.Bool.{Bool, true, false, not, true≢false}
 use Prim.Native.Nat.{ℕ, _+_, _-_, _≤_}
@@ -9,13 +9,12 @@ use lib.Dec.{eqb}
 use Rattle.numbers.specs.Numbers.{when}
 use Rattle.rules.specs.Kinds.{ftyp, moov, moof, mdat}
 use Rattle.rules.specs.Rules.{_then_, moved}
-use Rattle.rules.specs.Boxes.{Box, whole, headOf, sizeOf}
+use Rattle.rules.specs.Boxes.{Box, whole}
 use Rattle.rules.specs.Order.{ordered}
 use Rattle.rules.specs.Header.{headerRules, ftypIn}
 use Rattle.rules.specs.Fragment.{shape, timing, endOf}
 use Rattle.rules.specs.Track.{mdatAt, shapeAt, timingAt, endAt}
 use Rattle.rules.specs.declared.Ftyp.{Ftyp}
-use Rattle.rules.specs.declared.Previous.{Previous}
 use Rattle.rules.specs.declared.Previous.the-variants.{Unset, End}
 use Rattle.rules.specs.declared.Rule.{Rule}
 use Rattle.rules.specs.declared.Rule.the-variants.{Holds, Breaks}

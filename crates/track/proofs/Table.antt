@@ -22,7 +22,6 @@ use Rattle.rules.proofs.Walk.{some-fragment}
 use Rattle.track.specs.Course.{judgedBy, endFrom, endOfTrack, factsOf, judgement, Known}
 use Rattle.track.specs.Cursor.{NextAt, endList}
 use Rattle.track.specs.declared.TrackFacts.{TrackFacts}
-use Rattle.track.specs.declared.Judged.{Judged}
 use Rattle.track.specs.declared.Judged.the-variants.{Accepted, Refused}
 
 -- each start, and the last end, if there is one

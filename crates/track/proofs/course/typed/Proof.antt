@@ -1,11 +1,8 @@
 -- `track::course::typed` meets its contract. Assumes nothing.
 use mathlib.Core.Path.{refl, ap, _∙_}
-use mathlib.Core.List.{List}
-use Prim.Native.Nat.{ℕ}
 use borrow.Author.Needs.{needs}
 use denote.Ref.{now}
 use Rattle.rules.specs.Header.{ftypIn}
-use Rattle.rules.specs.declared.Ftyp.{Ftyp}
 use Rattle.track.specs.declared.course.Course.the-variants.{Typed}
 use Rattle.track.proofs.OwnBytes.{own-bytes, own-whole}
 use Rattle.track.proofs.course.typed.Statement.{statement}
