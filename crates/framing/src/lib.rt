@@ -141,16 +141,17 @@ pub fn top_box(s: &[u8], at: usize, n: usize) -> Step
         return broken(l, at);
     };
     let next = at + size;
+    let boxes = n + 1;
     let Inside::Holds(inner) = boxes::inside(Path::Top, kind) else {
         return Step::Past {
             head,
             size,
             kind,
-            boxes: n + 1,
+            boxes,
         };
     };
     let from = at + head;
-    let framed = read_run(&s[from..next], inner, from, n + 1);
+    let framed = read_run(&s[from..next], inner, from, boxes);
     passed(framed, head, size, kind)
 }
 

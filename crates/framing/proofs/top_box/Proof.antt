@@ -54,4 +54,7 @@ returns-5 c =
     (c .before .before .before .before .before .before .inside .ensures) (c .before .read-run .result) (c .passed .result) (c .before .before .before .before .inner .given .1) (rw (zero-add (a .at)) (c .before .read-run .ensures)) (c .passed .ensures)
 
 pub top-box-spec : {M : Type 1} → statement M
-top-box-spec = tie.close (tie.spec returns returns-2 (λ c κs. search needs) (λ c. search needs) (λ c κs. search needs) returns-3 add-next (λ c κs. search needs) (λ c. search needs) (λ c. search needs) (λ c. search needs) returns-4 add-from sub-read-run part-read-run-start part-read-run-end (λ c. search needs) read-run-requires (λ c κs. search needs) returns-5)
+top-box-spec =
+    tie.close
+    (tie.spec returns returns-2 (λ c κs. search needs) (λ c. search needs) (λ c κs. search needs) returns-3 add-next (λ c. search needs) (λ c κs. search needs) (λ c. search needs) (λ c. search needs) returns-4 add-from sub-read-run
+    part-read-run-start part-read-run-end read-run-requires (λ c κs. search needs) returns-5)
