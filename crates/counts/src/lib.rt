@@ -1,21 +1,23 @@
 // Box counts: what a container wants of its boxes, seen in one walk over them and judged entry by entry.
 ghost use mathlib.Core.Path.{_≡_};
+ghost use Prim.Native.Nat.{_≤_};
 ghost use mathlib.Core.List.{[], _∷_};
 ghost use lib.ListN.{length};
 ghost use Rattle.rules.specs.Rules.{placedUpTo};
 ghost use Rattle.rules.specs.Counts.{wanted, oneOf, atMostOneOf, someOf, counted, counts, countsIf};
 ghost use Rattle.boxes.specs.Stands.{Stands};
-ghost use Rattle.counts.specs.Sights.{seenOf, StandsIn, spotOf, againAt, Tallied, Counts};
+ghost use Rattle.counts.specs.Sights.{seenBy, seenOf, StandsIn, againAt, Tallied, Counts};
 use boxes::Spot;
 use rules::Entry;
 use rules::Look;
 use rules::Rule;
 
-// What is seen of an entry: no box, one, or more, with the first and the place of the second.
-pub enum Sight {
-    Never,
-    Once(Spot),
-    Twice(Spot, usize),
+// What is seen of an entry: no box, one, or more (then the count is 2); the first of them, or the container where there is none;
+// and the place of the second, or the place where the container's boxes begin where there is none.
+pub struct Sight {
+    pub count: usize,
+    pub first: Spot,
+    pub second: usize,
 }
 
 // What a container's boxes come to: its counts as a rule, and what is seen of each entry.
@@ -51,83 +53,84 @@ fn wanted(e: Entry, kind: u32) -> bool
 fn again(v: Sight, at: usize, head: usize, size: usize) -> Sight
     ensures { λ r. ⌜ r ≡ againAt (record { at = at; head = head; size = size }) v ⌝ }
 {
-    match v {
-        Sight::Never => Sight::Once(Spot { at, head, size }),
-        Sight::Once(b) => Sight::Twice(b, at),
-        Sight::Twice(b, p) => Sight::Twice(b, p),
+    if v.count == 0 {
+        return Sight {
+            count: 1,
+            first: Spot { at, head, size },
+            second: v.second,
+        };
     }
+    if v.count == 1 {
+        let first = v.first;
+        return Sight {
+            count: 2,
+            first,
+            second: at,
+        };
+    }
+    v
 }
 
-// The first box seen, or the container itself where there is none.
-pub fn first(v: Sight, container: Spot) -> Spot
-    ensures { λ r. ⌜ r ≡ spotOf v container ⌝ }
+// One box, by how many were seen and the place of the second: the container's place if missing, the first extra box's if too many.
+// No count asks where the first stands: the contracts name the container's place for it.
+fn one_of(number: u64, container: usize, n: usize, p: usize) -> Rule
+    ensures { λ r. ⌜ r ≡ oneOf number container (seenBy n container p) ⌝ }
 {
-    match v {
-        Sight::Never => container,
-        Sight::Once(b) => b,
-        Sight::Twice(b, _) => b,
-    }
-}
-
-// One box: the container's place if missing, the first extra box's if too many.
-fn one_of(number: u64, container: usize, v: Sight) -> Rule
-    ensures { λ r. ⌜ r ≡ oneOf number container (seenOf v) ⌝ }
-{
-    match v {
-        Sight::Never => Rule::Breaks {
+    if n == 0 {
+        return Rule::Breaks {
             number,
             track: 0,
             place: container as u64,
-        },
-        Sight::Once(_) => Rule::Holds,
-        Sight::Twice(_, p) => Rule::Breaks {
-            number,
-            track: 0,
-            place: p as u64,
-        },
+        };
+    }
+    if n == 1 {
+        return Rule::Holds;
+    }
+    Rule::Breaks {
+        number,
+        track: 0,
+        place: p as u64,
     }
 }
 
 // At most one.
-fn at_most_one_of(number: u64, v: Sight) -> Rule
-    ensures { λ r. ⌜ r ≡ atMostOneOf number (seenOf v) ⌝ }
+fn at_most_one_of(number: u64, n: usize, p: usize) -> Rule
+    ensures { λ r. ⌜ r ≡ atMostOneOf number (seenBy n p p) ⌝ }
 {
-    match v {
-        Sight::Never => Rule::Holds,
-        Sight::Once(_) => Rule::Holds,
-        Sight::Twice(_, p) => Rule::Breaks {
-            number,
-            track: 0,
-            place: p as u64,
-        },
+    if n <= 1 {
+        return Rule::Holds;
+    }
+    Rule::Breaks {
+        number,
+        track: 0,
+        place: p as u64,
     }
 }
 
 // One or more.
-fn some_of(number: u64, container: usize, v: Sight) -> Rule
-    ensures { λ r. ⌜ r ≡ someOf number container (seenOf v) ⌝ }
+fn some_of(number: u64, container: usize, n: usize) -> Rule
+    ensures { λ r. ⌜ r ≡ someOf number container (seenBy n container container) ⌝ }
 {
-    match v {
-        Sight::Never => Rule::Breaks {
+    if n == 0 {
+        return Rule::Breaks {
             number,
             track: 0,
             place: container as u64,
-        },
-        Sight::Once(_) => Rule::Holds,
-        Sight::Twice(_, _) => Rule::Holds,
+        };
     }
+    Rule::Holds
 }
 
-// The count of an entry in a container, by what is seen of it.
-fn count_of(number: u64, container: usize, e: Entry, v: Sight) -> Rule
-    ensures { λ r. ⌜ r ≡ counted number container e (seenOf v) ⌝ }
+// The count of an entry in a container, by how many were seen and the place of the second.
+fn count_of(number: u64, container: usize, e: Entry, n: usize, p: usize) -> Rule
+    ensures { λ r. ⌜ r ≡ counted number container e (seenBy n container p) ⌝ }
 {
     match e {
         Entry::Nothing => Rule::Holds,
-        Entry::One(_) => one_of(number, container, v),
-        Entry::AtMostOne(_) => at_most_one_of(number, v),
-        Entry::OneOrMore(_) => some_of(number, container, v),
-        Entry::OneInAll(_, _, _) => one_of(number, container, v),
+        Entry::One(_) => one_of(number, container, n, p),
+        Entry::AtMostOne(_) => at_most_one_of(number, n, p),
+        Entry::OneOrMore(_) => some_of(number, container, n),
+        Entry::OneInAll(_, _, _) => one_of(number, container, n, p),
     }
 }
 
@@ -138,14 +141,27 @@ struct Three {
     c: Sight,
 }
 
-// What is seen of three entries among the sibling boxes of a slice from a place on.
-fn tally(s: &[u8], from: usize, a: Entry, b: Entry, c: Entry) -> Three
-    ensures { λ r. ⌜ Tallied (now (s .entry)) from a b c r ⌝ }
+// What is seen of three entries of a container among the sibling boxes of a slice from a place on.
+fn tally(s: &[u8], k: Spot, from: usize, a: Entry, b: Entry, c: Entry) -> Three
+    requires { ⌜ from ≤ length (now s) ⌝ }
+    ensures { λ r. ⌜ Tallied (now (s .entry)) k from a b c r ⌝ }
 {
     let mut at = from;
-    let mut u = Sight::Never;
-    let mut v = Sight::Never;
-    let mut x = Sight::Never;
+    let mut u = Sight {
+        count: 0,
+        first: k,
+        second: from,
+    };
+    let mut v = Sight {
+        count: 0,
+        first: k,
+        second: from,
+    };
+    let mut x = Sight {
+        count: 0,
+        first: k,
+        second: from,
+    };
     loop {
         let l = boxes::look(s, at);
         let Look::Header { head, size, kind } = l else {
@@ -172,12 +188,15 @@ pub fn counts(number: u64, m: &[u8], x: Spot, a: Entry, b: Entry, c: Entry) -> C
     let at = x.at;
     let from = at + x.head;
     let end = at + x.size;
-    let t = tally(&m[..end], from, a, b, c);
+    let t = tally(&m[..end], x, from, a, b, c);
     let u = t.a;
     let v = t.b;
     let w = t.c;
-    let later = rules::first_broken(count_of(number, at, b, v), count_of(number, at, c, w));
-    let rule = rules::first_broken(count_of(number, at, a, u), later);
+    let later = rules::first_broken(
+        count_of(number, at, b, v.count, v.second),
+        count_of(number, at, c, w.count, w.second),
+    );
+    let rule = rules::first_broken(count_of(number, at, a, u.count, u.second), later);
     Counted {
         rule,
         a: u,
@@ -202,9 +221,8 @@ pub fn counts_if(number: u64, m: &[u8], v: Sight, e: Entry) -> Rule
     ensures { λ r. ⌜ r ≡ countsIf number (now (m .entry)) (seenOf v) (e ∷ []) ⌝ }
     ensures { λ r. ⌜ placedUpTo (length (now (m .entry))) r ⌝ }
 {
-    match v {
-        Sight::Never => Rule::Holds,
-        Sight::Once(x) => alone(number, m, x, e),
-        Sight::Twice(x, _) => alone(number, m, x, e),
+    if v.count == 0 {
+        return Rule::Holds;
     }
+    alone(number, m, v.first, e)
 }

@@ -26,9 +26,8 @@ use Rattle.boxes.specs.Stands.{Stands}
 use Rattle.boxes.specs.declared.Spot.{Spot}
 use Rattle.boxes.proofs.Walks.{found, told-header}
 use Rattle.boxes.proofs.Stands.{stands}
-use Rattle.counts.specs.Sights.{spotOf, Sighted}
+use Rattle.counts.specs.Sights.{Sighted}
 use Rattle.counts.specs.declared.Sight.{Sight}
-use Rattle.counts.proofs.Firsts.{first-stands, first-is}
 use Rattle.fragment.specs.Layout.{StandsAt}
 use Rattle.fragment.specs.Runs.{runsAt}
 
@@ -149,6 +148,5 @@ module _ (m : List ℕ) (x : Spot) (st : Stands m x) (w at : ℕ) where
     child-later i n = i ∙ first-later front at (One w) h z k (told-header front at e t) (ne-eqb k w n)
 
 -- the first box seen of an entry stands where it is
-pub sighted :
-    (m : List ℕ) (x b : Spot) (e : Entry) (v : Sight) → Stands m x → Sighted m (x .at) e v → b ≡ spotOf v x → StandsAt m (firstIn m (x .at) e) b
-sighted m x b e v st g q = rw q (record { stands = first-stands st g; place = first-is x g })
+pub sighted : (m : List ℕ) (at : ℕ) (e : Entry) (v : Sight) → Sighted m at e v → StandsAt m (firstIn m at e) (v .first)
+sighted m at e v g = record { stands = g .stands .0; place = g .first }

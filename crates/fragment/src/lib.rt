@@ -136,12 +136,9 @@ fn in_traf(
     match rule {
         Rule::Breaks { number, place, .. } => Fragment::Refused { number, place },
         Rule::Holds => {
-            let a = seen.a;
-            let b = seen.b;
-            let c = seen.c;
-            let tfhd = counts::first(a, traf);
-            let tfdt = counts::first(b, traf);
-            let run = counts::first(c, traf);
+            let tfhd = seen.a.first;
+            let tfdt = seen.b.first;
+            let run = seen.c.first;
             let x = Moof {
                 mfhd,
                 traf,
@@ -171,10 +168,8 @@ pub fn check(m: &[u8], moof: usize, head: u64, payload: u64, h: Header, prev: Pr
     match rule {
         Rule::Breaks { number, place, .. } => Fragment::Refused { number, place },
         Rule::Holds => {
-            let a = seen.a;
-            let b = seen.b;
-            let mfhd = counts::first(a, whole);
-            let traf = counts::first(b, whole);
+            let mfhd = seen.a.first;
+            let traf = seen.b.first;
             in_traf(m, mfhd, traf, head, payload, h, prev)
         }
     }

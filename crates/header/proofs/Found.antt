@@ -12,10 +12,10 @@ use Rattle.rules.specs.declared.Rule.the-variants.{Holds, Breaks}
 use Rattle.rules.specs.declared.Seen.{Seen}
 use Rattle.boxes.specs.Stands.{Whole}
 use Rattle.boxes.specs.declared.Spot.{Spot}
-use Rattle.counts.specs.Sights.{seenOf, spotOf, Sighted, Counts}
+use Rattle.counts.specs.Sights.{seenOf, Sighted, Counts}
 use Rattle.counts.specs.declared.Sight.{Sight}
 use Rattle.counts.specs.declared.Counted.{Counted}
-use Rattle.counts.proofs.Firsts.{first-stands, first-is, counts-join}
+use Rattle.counts.proofs.Firsts.{counts-join}
 use Rattle.header.specs.Places.{At, Judges}
 
 -- `moov` stands at its own start
@@ -25,12 +25,8 @@ at-start w = record { is = refl; stands = w }
 -- in the container that stands at a place
 module _ {m : List ℕ} {x : Spot} {p : ℕ} (h : At m p x) where
   -- the first box of an entry
-  pub met : {e : Entry} {v : Sight} {b : Spot} → Sighted m (x .at) e v → b ≡ spotOf v x → At m (firstIn m p e) b
-  met {e} {v} {b} g k =
-      record {
-        is = ap (λ (s : Spot). s .at) k ∙ first-is x g ∙ ap (λ (i : ℕ). firstIn m i e) (h .is);
-        stands = rw k (first-stands (h .stands) g);
-      }
+  pub met : {e : Entry} {v : Sight} → Sighted m (x .at) e v → At m (firstIn m p e) (v .first)
+  met {e} g = record { is = g .first ∙ ap (λ (i : ℕ). firstIn m i e) (h .is); stands = g .stands .0 }
 
   -- its counts, by other entries that come to the same
   pub judged : {a b c : Entry} {r : Counted} {q : Rule} → Counts 7 m (x .at) a b c r → counts 7 m p (a ∷ b ∷ c ∷ []) ≡ q

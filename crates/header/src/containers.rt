@@ -6,7 +6,6 @@ use boxes::Spot;
 use boxes::kinds;
 use counts::counts;
 use counts::counts_if;
-use counts::first;
 use rules::Entry;
 use rules::Rule;
 use rules::first_broken;
@@ -55,29 +54,28 @@ fn in_trak(m: &[u8], x: Spot) -> InTrak
     let mdia = Entry::One(kinds::MDIA);
     let k = counts(7, m, x, tkhd, edts, mdia);
     let trak = k.rule;
-    let tkhd = k.a;
+    let tkhd = k.a.first;
     let edts = k.b;
-    let mdia = k.c;
-    let y = first(mdia, x);
+    let y = k.c.first;
     let mdhd = Entry::One(kinds::MDHD);
     let hdlr = Entry::One(kinds::HDLR);
     let elng = Entry::AtMostOne(kinds::ELNG);
     let minf = Entry::One(kinds::MINF);
     let k = counts(7, m, y, mdhd, hdlr, elng);
     let front = k.rule;
-    let mdhd = k.a;
-    let hdlr = k.b;
+    let mdhd = k.a.first;
+    let hdlr = k.b.first;
     let k = counts(7, m, y, minf, none, none);
     let last = k.rule;
-    let minf = k.a;
+    let minf = k.a.first;
     InTrak {
         trak,
         edts: counts_if(7, m, edts, Entry::One(kinds::ELST)),
         mdia: first_broken(front, last),
-        tkhd: first(tkhd, x),
-        mdhd: first(mdhd, y),
-        hdlr: first(hdlr, y),
-        minf: first(minf, y),
+        tkhd,
+        mdhd,
+        hdlr,
+        minf,
     }
 }
 
@@ -92,13 +90,12 @@ fn in_minf(m: &[u8], x: Spot) -> InMinf
     let stbl = Entry::One(kinds::STBL);
     let k = counts(7, m, x, media, dinf, stbl);
     let minf = k.rule;
-    let media = k.a;
-    let dinf = k.b;
-    let stbl = k.c;
+    let media = k.a.first;
+    let dinf = k.b.first;
+    let y = k.c.first;
     let dref = Entry::One(kinds::DREF);
-    let k = counts(7, m, first(dinf, x), dref, none, none);
+    let k = counts(7, m, dinf, dref, none, none);
     let dinf = k.rule;
-    let y = first(stbl, x);
     let stsd = Entry::One(kinds::STSD);
     let stts = Entry::One(kinds::STTS);
     let stsc = Entry::One(kinds::STSC);
@@ -106,23 +103,23 @@ fn in_minf(m: &[u8], x: Spot) -> InMinf
     let stco = Entry::One(kinds::STCO);
     let k = counts(7, m, y, stsd, stts, stsc);
     let front = k.rule;
-    let stsd = k.a;
-    let stts = k.b;
-    let stsc = k.c;
+    let stsd = k.a.first;
+    let stts = k.b.first;
+    let stsc = k.c.first;
     let k = counts(7, m, y, stsz, stco, none);
     let last = k.rule;
-    let stsz = k.a;
-    let stco = k.b;
+    let stsz = k.a.first;
+    let stco = k.b.first;
     InMinf {
         minf,
         dinf,
         stbl: first_broken(front, last),
-        media: first(media, x),
-        stsd: first(stsd, y),
-        stts: first(stts, y),
-        stsc: first(stsc, y),
-        stsz: first(stsz, y),
-        stco: first(stco, y),
+        media,
+        stsd,
+        stts,
+        stsc,
+        stsz,
+        stco,
     }
 }
 
@@ -139,16 +136,15 @@ pub fn rule7(m: &[u8], head: usize) -> Located
     let mvex = Entry::One(kinds::MVEX);
     let k = counts(7, m, x, mvhd, trak, mvex);
     let moov = k.rule;
-    let mvhd = k.a;
-    let trak = k.b;
-    let mvex = k.c;
-    let t = in_trak(m, first(trak, x));
+    let mvhd = k.a.first;
+    let trak = k.b.first;
+    let y = k.c.first;
+    let t = in_trak(m, trak);
     let i = in_minf(m, t.minf);
-    let y = first(mvex, x);
     let trex = Entry::One(kinds::TREX);
     let k = counts(7, m, y, trex, none, none);
     let mvex = k.rule;
-    let trex = k.a;
+    let trex = k.a.first;
     let trak = t.trak;
     let edts = t.edts;
     let mdia = t.mdia;
@@ -159,9 +155,9 @@ pub fn rule7(m: &[u8], head: usize) -> Located
     let inner = first_broken(edts, first_broken(mdia, lower));
     Located {
         rule: first_broken(moov, first_broken(trak, inner)),
-        mvhd: first(mvhd, x),
+        mvhd,
         trak: t,
         minf: i,
-        trex: first(trex, y),
+        trex,
     }
 }

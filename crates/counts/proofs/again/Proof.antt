@@ -1,15 +1,15 @@
-use borrow.Author.Needs.{needs}
+use borrow.Author.Tests.{eq-eqb, ne-eqb}
 use Rattle.counts.proofs.again.Statement.{statement}
 use Rattle.counts.proofs.again.Tie as tie
 
 returns : tie.Need-returns
-returns c = rw (c .enum-told .given .1)
+returns c = rw (eq-eqb _ _ (c .if1 .taken))
 
 returns-2 : tie.Need-returns-2
-returns-2 c = rw (c .before .v .given .1)
+returns-2 c = rw (ne-eqb _ _ (c .before .before .before .if1 .left), eq-eqb _ _ (c .before .if2 .taken))
 
 returns-3 : tie.Need-returns-3
-returns-3 c = rw (c .before .v2 .given .1)
+returns-3 c = rw (ne-eqb _ _ (c .before .before .if1 .left), ne-eqb _ _ (c .if2 .left))
 
 pub again-spec : {M : Type 1} → statement M
-again-spec = tie.close (tie.spec (λ c. search needs) (λ c. search needs) (λ c. search needs) returns returns-2 returns-3)
+again-spec = tie.close (tie.spec returns returns-2 returns-3)

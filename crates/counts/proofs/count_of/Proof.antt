@@ -1,4 +1,6 @@
+use mathlib.Core.Path.{_∙_}
 use Rattle.rules.specs.Counts.{counted}
+use Rattle.counts.proofs.Plain.{most-any, some-any}
 use borrow.Author.Needs.{needs}
 use Rattle.counts.proofs.count_of.Statement.{statement}
 use Rattle.counts.proofs.count_of.Tie as tie
@@ -13,11 +15,15 @@ returns-2 c = rw (c .before .enum-told2 .given .1) (c .one-of .ensures)
 
 returns-3 : tie.Need-returns-3
 unfolding counted
-returns-3 c = rw (c .before .enum-told3 .given .1) (c .at-most-one-of .ensures)
+returns-3 c =
+    let a = c .before .before .before .args in
+    rw (c .before .enum-told3 .given .1) (c .at-most-one-of .ensures ∙ most-any (a .number) (a .p) (a .container) (a .p) (a .n))
 
 returns-4 : tie.Need-returns-4
 unfolding counted
-returns-4 c = rw (c .before .enum-told4 .given .1) (c .some-of .ensures)
+returns-4 c =
+    let a = c .before .before .before .args in
+    rw (c .before .enum-told4 .given .1) (c .some-of .ensures ∙ some-any (a .number) (a .container) (a .container) (a .container) (a .container) (a .p) (a .n))
 
 returns-5 : tie.Need-returns-5
 unfolding counted

@@ -10,13 +10,15 @@ use Rattle.counts.proofs.tally.Statement.{statement}
 use Rattle.counts.proofs.tally.Tie as tie
 
 abbrev Inv-loop : tie.InvT-loop
-Inv-loop s from a b c at₀ u₀ v₀ x₀ at u v x = Going s from at a u × Going s from at b v × Going s from at c x
+Inv-loop s from a b c at₀ u₀ v₀ x₀ at u v x = Going s (u₀ .first) from at a u × Going s (v₀ .first) from at b v × Going s (x₀ .first) from at c x
 
 abbrev μ-loop : tie.MeasureT-loop
 μ-loop s from a b c at₀ u₀ v₀ x₀ at u v x = length s - at
 
 loop-holds : tie.Need-loop-holds Inv-loop μ-loop
-loop-holds c = (going-none _ _ _, going-none _ _ _, going-none _ _ _)
+loop-holds c =
+    let l = c .before .pre in
+    (going-none _ _ _ _ l, going-none _ _ _ _ l, going-none _ _ _ _ l)
 
 returns : tie.Need-returns Inv-loop μ-loop
 returns c =

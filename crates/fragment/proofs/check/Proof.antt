@@ -19,7 +19,7 @@ in-traf-requires c κs =
     let s = e .before .before .before .before in
     let m = now (s .args .m) in (
       (s .pre .1, s .pre .2, sym (counts-2 14 m 0 (One mfhd) (One traf)) ∙ sym (n .ensures .rule) ∙ e .enum-told .given .1),
-      (sighted m _ (c .before .first .result) (One mfhd) (n .result .a) (s .pre .0) (n .ensures .a) (c .before .first .ensures), sighted m _ (c .first2 .result) (One traf) (n .result .b) (s .pre .0) (n .ensures .b) (c .first2 .ensures)),
+      (sighted m 0 (One mfhd) (n .result .a) (n .ensures .a), sighted m 0 (One traf) (n .result .b) (n .ensures .b)),
     )
 
 returns : tie.Need-returns
@@ -34,5 +34,5 @@ pub check-spec : {M : Type 1} → statement M
 check-spec =
     tie.close
     (tie.spec
-    (λ c κs. search needs) (λ c. search needs) (λ c. search needs) (λ c κs. search needs) (λ c κs. search needs) in-traf-requires
+    (λ c κs. search needs) (λ c. search needs) (λ c. search needs) in-traf-requires
     returns (λ c. search needs))

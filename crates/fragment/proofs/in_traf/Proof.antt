@@ -24,9 +24,9 @@ read-requires c κs =
       record {
         mfhd = s .pre .1 .0;
         traf = t;
-        tfhd = rw (← t .place) (sighted m (a .traf) (c .before .before .first .result) (One tfhd) (n .result .a) (t .stands) (n .ensures .a) (c .before .before .first .ensures));
-        tfdt = rw (← t .place) (sighted m (a .traf) (c .before .first2 .result) (One tfdt) (n .result .b) (t .stands) (n .ensures .b) (c .before .first2 .ensures));
-        run = rw (← t .place) (sighted m (a .traf) (c .first3 .result) (OneOrMore trun) (n .result .c) (t .stands) (n .ensures .c) (c .first3 .ensures));
+        tfhd = rw (← t .place) (sighted m (a .traf .at) (One tfhd) (n .result .a) (n .ensures .a));
+        tfdt = rw (← t .place) (sighted m (a .traf .at) (One tfdt) (n .result .b) (n .ensures .b));
+        run = rw (← t .place) (sighted m (a .traf .at) (OneOrMore trun) (n .result .c) (n .ensures .c));
       },
       right-14 m (s .pre .0 .2) (rw (← t .place) (sym (n .ensures .rule) ∙ e .enum-told .given .1)),
     )
@@ -45,5 +45,4 @@ pub in-traf-spec : {M : Type 1} → statement M
 in-traf-spec =
     tie.close
     (tie.spec
-    (λ c κs. search needs) (λ c. search needs) (λ c. search needs) (λ c κs. search needs) (λ c κs. search needs)
-    (λ c κs. search needs) read-requires returns (λ c. search needs))
+    (λ c κs. search needs) (λ c. search needs) (λ c. search needs) read-requires returns (λ c. search needs))

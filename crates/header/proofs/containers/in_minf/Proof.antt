@@ -13,40 +13,40 @@ use Rattle.header.proofs.containers.in_minf.Statement.{statement}
 use Rattle.header.proofs.containers.in_minf.Tie as tie
 
 -- where `dinf` and `stbl` stand
-dinf : (c : tie.After-first) → At (now (c .before .before .before .args .m)) (dinfIn (now (c .before .before .before .args .m))) (c .first .result)
+dinf : (c : tie.After-counts) → At (now (c .before .before .args .m)) (dinfIn (now (c .before .before .args .m))) (c .counts .result .b .first)
 unfolding dinfIn
-dinf c = met (c .before .before .before .pre) (c .before .counts .ensures .b) (c .first .ensures)
+dinf c = met (c .before .before .pre) (c .counts .ensures .b)
 
-stbl : (c : tie.After-first2) → At (now (c .before .before .before .before .before .args .m)) (stblIn (now (c .before .before .before .before .before .args .m))) (c .first2 .result)
+stbl : (c : tie.After-counts) → At (now (c .before .before .args .m)) (stblIn (now (c .before .before .args .m))) (c .counts .result .c .first)
 unfolding stblIn
-stbl c = met (c .before .before .before .before .before .pre) (c .before .before .before .counts .ensures .c) (c .first2 .ensures)
+stbl c = met (c .before .before .pre) (c .counts .ensures .c)
 
 counts-requires-2 : tie.Need-counts-requires-2
-counts-requires-2 c κs = dinf c .stands
+counts-requires-2 c κs = dinf (c .before .before .before) .stands
 
 counts-requires-3 : tie.Need-counts-requires-3
-counts-requires-3 c κs = stbl c .stands
+counts-requires-3 c κs = stbl (c .before .before .before .before) .stands
 
 counts-requires-4 : tie.Need-counts-requires-4
-counts-requires-4 c κs = stbl (c .before) .stands
+counts-requires-4 c κs = stbl (c .before .before .before .before .before .before .before .before) .stands
 
 returns : tie.Need-returns
 returns c =
     let x = c .before .before .before .before .before .before .before .before .before .before .before .before .before .before .pre in
-    let y = stbl (c .before .before .before .before .before .before .before .before .before) in
+    let y = stbl (c .before .before .before .before .before .before .before .before .before .before .before .before) in
     let i = c .before .before .before .before .before .before .before .before .before .before .before .before .counts .ensures in
-    let k = c .before .before .before .before .before .before .before .before .counts3 .ensures in
-    let l = c .before .before .before .before .before .before .before .counts4 .ensures in
+    let k = c .before .before .before .before .before .before .before .counts3 .ensures in
+    let l = c .before .before .before .counts4 .ensures in
     record {
       minf = judged x i refl;
-      dinf = judged (dinf (c .before .before .before .before .before .before .before .before .before .before .before)) (c .before .before .before .before .before .before .before .before .before .before .counts2 .ensures) (counts-1 _ _ _ _);
-      stbl = judged-join _ (One stsd ∷ One stts ∷ One stsc ∷ []) (One stsz ∷ One stco ∷ []) (c .before .before .before .before .before .before .first-broken .ensures) (judged y k refl) (judged y l (counts-2 _ _ _ _ _));
-      media = met x (i .a) (c .before .before .before .before .before .first3 .ensures);
-      stsd = met y (k .a) (c .before .before .before .before .first4 .ensures);
-      stts = met y (k .b) (c .before .before .before .first5 .ensures);
-      stsc = met y (k .c) (c .before .before .first6 .ensures);
-      stsz = met y (l .a) (c .before .first7 .ensures);
-      stco = met y (l .b) (c .first8 .ensures);
+      dinf = judged (dinf (c .before .before .before .before .before .before .before .before .before .before .before .before)) (c .before .before .before .before .before .before .before .before .counts2 .ensures) (counts-1 _ _ _ _);
+      stbl = judged-join _ (One stsd ∷ One stts ∷ One stsc ∷ []) (One stsz ∷ One stco ∷ []) (c .first-broken .ensures) (judged y k refl) (judged y l (counts-2 _ _ _ _ _));
+      media = met x (i .a);
+      stsd = met y (k .a);
+      stts = met y (k .b);
+      stsc = met y (k .c);
+      stsz = met y (l .a);
+      stco = met y (l .b);
     }
 
 pub in-minf-spec : {M : Type 1} → statement M
@@ -54,16 +54,8 @@ in-minf-spec =
     tie.close
     (tie.spec
     (λ c κs. search needs)
-    (λ c κs. search needs)
     counts-requires-2
-    (λ c κs. search needs)
     counts-requires-3
     counts-requires-4
-    (λ c κs. search needs)
-    (λ c κs. search needs)
-    (λ c κs. search needs)
-    (λ c κs. search needs)
-    (λ c κs. search needs)
-    (λ c κs. search needs)
     (λ c κs. search needs)
     returns)

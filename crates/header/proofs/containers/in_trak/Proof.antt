@@ -13,32 +13,35 @@ use Rattle.header.proofs.containers.in_trak.Statement.{statement}
 use Rattle.header.proofs.containers.in_trak.Tie as tie
 
 -- where `mdia` stands
-mdia : (c : tie.After-first) → At (now (c .before .before .before .args .m)) (mdiaIn (now (c .before .before .before .args .m))) (c .first .result)
+mdia : (c : tie.After-counts) → At (now (c .before .before .args .m)) (mdiaIn (now (c .before .before .args .m))) (c .counts .result .c .first)
 unfolding mdiaIn
-mdia c = met (c .before .before .before .pre) (c .before .counts .ensures .c) (c .first .ensures)
+mdia c = met (c .before .before .pre) (c .counts .ensures .c)
 
 counts-requires-2 : tie.Need-counts-requires-2
-counts-requires-2 c κs = mdia c .stands
+counts-requires-2 c κs = mdia (c .before .before .before) .stands
 
 counts-requires-3 : tie.Need-counts-requires-3
-counts-requires-3 c κs = mdia (c .before) .stands
+counts-requires-3 c κs = mdia (c .before .before .before .before .before .before) .stands
+
+counts-if-requires : tie.Need-counts-if-requires
+counts-if-requires c κs = c .before .before .before .before .before .before .before .before .counts .ensures .b .stands
 
 returns : tie.Need-returns
 unfolding minfIn
 returns c =
-    let x = c .before .before .before .before .before .before .before .before .before .before .before .pre in
-    let y = mdia (c .before .before .before .before .before .before .before .before) in
-    let t = c .before .before .before .before .before .before .before .before .before .counts .ensures in
-    let k = c .before .before .before .before .before .before .before .counts2 .ensures in
-    let l = c .before .before .before .before .before .before .counts3 .ensures in
+    let x = c .before .before .before .before .before .before .before .before .before .before .before .before .pre in
+    let y = mdia (c .before .before .before .before .before .before .before .before .before .before) in
+    let t = c .before .before .before .before .before .before .before .before .before .before .counts .ensures in
+    let k = c .before .before .before .before .before .before .counts2 .ensures in
+    let l = c .before .before .before .counts3 .ensures in
     record {
       trak = judged x t refl;
-      edts = judged-if x _ (t .b) (c .before .before .before .before .before .counts-if .ensures .0) (c .before .before .before .before .before .counts-if .ensures .1);
-      mdia = judged-join _ (One mdhd ∷ One hdlr ∷ AtMostOne elng ∷ []) (One minf ∷ []) (c .before .before .before .before .first-broken .ensures) (judged y k refl) (judged y l (counts-1 _ _ _ _));
-      tkhd = met x (t .a) (c .before .before .before .first2 .ensures);
-      mdhd = met y (k .a) (c .before .before .first3 .ensures);
-      hdlr = met y (k .b) (c .before .first4 .ensures);
-      minf = met y (l .a) (c .first5 .ensures);
+      edts = judged-if x _ (t .b) (c .before .counts-if .ensures .0) (c .before .counts-if .ensures .1);
+      mdia = judged-join _ (One mdhd ∷ One hdlr ∷ AtMostOne elng ∷ []) (One minf ∷ []) (c .first-broken .ensures) (judged y k refl) (judged y l (counts-1 _ _ _ _));
+      tkhd = met x (t .a);
+      mdhd = met y (k .a);
+      hdlr = met y (k .b);
+      minf = met y (l .a);
     }
 
 pub in-trak-spec : {M : Type 1} → statement M
@@ -46,13 +49,8 @@ in-trak-spec =
     tie.close
     (tie.spec
     (λ c κs. search needs)
-    (λ c κs. search needs)
     counts-requires-2
     counts-requires-3
-    (λ c κs. search needs)
-    (λ c κs. search needs)
-    (λ c κs. search needs)
-    (λ c κs. search needs)
-    (λ c κs. search needs)
+    counts-if-requires
     (λ c κs. search needs)
     returns)
