@@ -80,7 +80,7 @@ Onward m want d from r t u = (all rest : List ℕ) → Walked m want d from all 
 -- one run more, or the place of one that has another form
 abbrev pub saysNext : Runs → List ℕ → Spot → Bool → Defaults → ℕ → Totals → Type 0
 saysNext (Of u) m r want d from t = Onward m want d from (r .at) t u × (u .samples ≤ t .samples + 4294967295)
-saysNext (Wrong p) m r want d from t = body 15 (runForm m (r .at)) m (r .at) ≡ Breaks 15 0 (r .at)
+saysNext (Wrong p) m r want d from t = (body 15 (runForm m (r .at)) m (r .at) ≡ Breaks 15 0 (r .at)) × (p ≡ r .at)
 
 -- what all runs come to, or the place of the first that has another form
 abbrev pub saysRuns : Runs → List ℕ → Bool → Defaults → ℕ → List ℕ → Type 0

@@ -2,6 +2,7 @@
 use Prim.Native.Nat.{ℕ}
 use mathlib.Core.Bool.{Bool, true, false, not, _&&_, _||_}
 use mathlib.Core.List.{List, [], _∷_, _++_}
+use mathlib.Core.Path.{_≡_, refl}
 use lib.Dec.{eqb}
 
 -- whether a number is one of a list
@@ -67,3 +68,13 @@ trackNumbers = metNumbers ++ timingNumbers
 
 abbrev pub bundleNumbers : List ℕ
 bundleNumbers = recordNumbers ++ trackNumbers ++ setNumbers
+
+-- these lists written out: no number too many, none too few
+pub index-list : indexNumbers ≡ 1 ∷ 2 ∷ 3 ∷ 4 ∷ 5 ∷ []
+index-list = refl
+
+pub track-list : trackNumbers ≡ 1 ∷ 2 ∷ 3 ∷ 4 ∷ 5 ∷ 6 ∷ 7 ∷ 8 ∷ 9 ∷ 10 ∷ 11 ∷ 12 ∷ 13 ∷ 14 ∷ 15 ∷ 16 ∷ 17 ∷ 18 ∷ 19 ∷ 20 ∷ 21 ∷ 22 ∷ []
+track-list = refl
+
+pub bundle-list : bundleNumbers ≡ 24 ∷ (trackNumbers ++ (25 ∷ 26 ∷ 27 ∷ 28 ∷ []))
+bundle-list = refl

@@ -6,6 +6,7 @@ use Rattle.rules.specs.Bytes.{single, shifted, trackT}
 use Rattle.rules.specs.Computed.{computed}
 use Rattle.rules.specs.Track.{ruling, fragmentCount, timescale}
 use Rattle.rules.specs.Rules.{_then_, ofTrack}
+use Rattle.rules.specs.Plans.{longest}
 use Rattle.rules.specs.Set.{handler, rulings, agree, setRuling}
 use Rattle.rules.specs.declared.Rule.the-variants.{Holds, Breaks}
 
@@ -56,3 +57,12 @@ beside-28 = refl
 pub set-28 : setRuling (trackT ∷ shifted ∷ []) ≡ Breaks 28 1 492
 unfolding setRuling rulings ofTrack _then_
 set-28 = rw (T-accepted, shifted-accepted) beside-28
+
+-- plans of T beside a shorter track are compared up to T's two fragments
+pub longest-of-two : longest (trackT ∷ single 0 108 30 ∷ []) ≡ 2
+unfolding computed single longest
+longest-of-two = refl
+
+pub longest-of-none : longest [] ≡ 0
+unfolding longest
+longest-of-none = refl

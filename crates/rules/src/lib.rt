@@ -1,4 +1,4 @@
-// The types that the written rules and the code share, and how the code puts rules together. The rules themselves are definitions: see specs/.
+// The types of the written rules, most of them shared with the code, and how the code puts rules together. The rules themselves are definitions: see specs/.
 ghost use mathlib.Core.Path.{_≡_};
 ghost use Rattle.rules.specs.Rules.{_then_, must, ofTrack};
 

@@ -1,5 +1,5 @@
 -- `fragment::runs::and_run` meets its contract. Assumes nothing.
-use mathlib.Core.Path.{ap, _∙_}
+use mathlib.Core.Path.{refl, ap, _∙_}
 use native.Mathlib.Omega.{arith}
 use borrow.Author.Needs.{needs}
 use borrow.Author.Tests.{not-true, not-false}
@@ -11,7 +11,7 @@ use Rattle.fragment.proofs.runs.and_run.Statement.{statement}
 use Rattle.fragment.proofs.runs.and_run.Tie as tie
 
 returns : tie.Need-returns
-returns c = rw (c .enum-told .given .1) at (c .before .before .read-trun .ensures)
+returns c = (rw (c .enum-told .given .1) at (c .before .before .read-trun .ensures), refl)
 
 returns-2 : tie.Need-returns-2
 returns-2 c =

@@ -49,7 +49,7 @@ returns-2 c =
     let l = k .before .before .before .before .loop in
     let a = k .before .before .before .before .before .before .before .args in (
       walked-wrong (now (a .m)) (a .want) (a .d) (a .from) _ _ (l .t) (l .inv .0) (l .at) _ (runs-next (now (a .s)) (l .at) (k .before .before .before .look .ensures .0) (k .before .l .given .1) (i .if1 .taken))
-          (rw (c .enum-told .given .1) at (c .before .before .and-run .ensures)),
+          ((rw (c .enum-told .given .1) at (c .before .before .and-run .ensures)) .0),
       omega (arith, here k .fits),
     )
 
