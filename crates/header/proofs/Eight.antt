@@ -11,7 +11,7 @@ use Rattle.rules.proofs.Then.{then-holds, then-breaks}
 use Rattle.header.specs.Bodies.{saysMvhd, saysBody, saysTrex, HeadsIn}
 use Rattle.header.specs.declared.containers.Located.{Located}
 use Rattle.header.specs.declared.bodies.Mvhd.{Mvhd}
-use Rattle.header.specs.declared.bodies.Body.{Body}
+use Rattle.header.specs.declared.bodies.Reading.{Reading}
 use Rattle.header.specs.declared.bodies.Trex.{Trex}
 use Rattle.header.specs.declared.bodies.Heads.{Heads}
 
@@ -30,10 +30,10 @@ module _ (m : List ℕ) (at : ℕ) where
   pub wrong-mvhd : {r : Mvhd} → saysMvhd r m at → r ≡ Mvhd.Wrong → saysMvhd Mvhd.Wrong m at
   wrong-mvhd h e = rw e at h
 
-  pub tells : (w : Form) (n : ℕ) {r : Body} {x : ℕ} → saysBody r w n m at → r ≡ Body.Tells x → saysBody (Body.Tells x) w n m at
+  pub tells : (w : Form) (n : ℕ) {r : Reading} {x : ℕ} → saysBody r w n m at → r ≡ Reading.Tells x → saysBody (Reading.Tells x) w n m at
   tells w n h e = rw e at h
 
-  pub wrong : (w : Form) (n : ℕ) {r : Body} (q : Rule) → saysBody r w n m at → r ≡ Body.Wrong → (body 8 w m at then q) ≡ Breaks 8 0 at
+  pub wrong : (w : Form) (n : ℕ) {r : Reading} (q : Rule) → saysBody r w n m at → r ≡ Reading.Wrong → (body 8 w m at then q) ≡ Breaks 8 0 at
   wrong w n q h e = stop q (rw e at h)
 
   pub tells-trex : {r : Trex} {i : ℕ} {d : Defaults} → saysTrex r m at → r ≡ Trex.Of i d → saysTrex (Trex.Of i d) m at

@@ -9,7 +9,7 @@ use Rattle.rules.specs.declared.Defaults.{Defaults}
 use Rattle.header.specs.Places.{placesBy}
 use Rattle.header.specs.declared.containers.Located.{Located}
 use Rattle.header.specs.declared.bodies.Mvhd.{Mvhd}
-use Rattle.header.specs.declared.bodies.Body.{Body}
+use Rattle.header.specs.declared.bodies.Reading.{Reading}
 use Rattle.header.specs.declared.bodies.Trex.{Trex}
 use Rattle.header.specs.declared.bodies.Heads.{Heads}
 use Rattle.header.specs.declared.bodies.Values.{Values}
@@ -21,9 +21,9 @@ saysMvhd Mvhd.Plain m at = body 8 (either 108 120) m at ≡ Holds
 saysMvhd Mvhd.Wrong m at = body 8 (either 108 120) m at ≡ Breaks 8 0 at
 
 -- a body has its form and tells a number, or it breaks rule 8
-abbrev pub saysBody : Body → Form → ℕ → List ℕ → ℕ → Type 0
-saysBody (Body.Tells x) w number m at = (body 8 w m at ≡ Holds) × (x ≡ number)
-saysBody Body.Wrong w number m at = body 8 w m at ≡ Breaks 8 0 at
+abbrev pub saysBody : Reading → Form → ℕ → List ℕ → ℕ → Type 0
+saysBody (Reading.Tells x) w number m at = (body 8 w m at ≡ Holds) × (x ≡ number)
+saysBody Reading.Wrong w number m at = body 8 w m at ≡ Breaks 8 0 at
 
 -- the defaults of the `trex` at a place
 unfoldable pub defaultsAt : List ℕ → ℕ → Defaults
@@ -37,18 +37,18 @@ saysTrex Trex.Wrong m at = body 8 (plain 32) m at ≡ Breaks 8 0 at
 -- what the bodies up to `stsd` say where none is wrong
 pub record HeadsIn (m : List ℕ) (s : Located) (h : Heads) : Type 0 where
   pub mvhd : saysMvhd Mvhd.Plain m (s .mvhd .at)
-  pub tkhd : saysBody (Body.Tells (h .id)) (either 92 104) (timed m (s .trak .tkhd .at)) m (s .trak .tkhd .at)
-  pub mdhd : saysBody (Body.Tells (h .timescale)) (either 32 44) (timed m (s .trak .mdhd .at)) m (s .trak .mdhd .at)
-  pub hdlr : saysBody (Body.Tells (h .handler)) (atLeast 32) (field m (s .trak .hdlr .at) 8) m (s .trak .hdlr .at)
-  pub stsd : saysBody (Body.Tells (h .stsd)) (atLeast 16) (field m (s .minf .stsd .at) 4) m (s .minf .stsd .at)
+  pub tkhd : saysBody (Reading.Tells (h .id)) (either 92 104) (timed m (s .trak .tkhd .at)) m (s .trak .tkhd .at)
+  pub mdhd : saysBody (Reading.Tells (h .timescale)) (either 32 44) (timed m (s .trak .mdhd .at)) m (s .trak .mdhd .at)
+  pub hdlr : saysBody (Reading.Tells (h .handler)) (atLeast 32) (field m (s .trak .hdlr .at) 8) m (s .trak .hdlr .at)
+  pub stsd : saysBody (Reading.Tells (h .stsd)) (atLeast 16) (field m (s .minf .stsd .at) 4) m (s .minf .stsd .at)
 
 -- what all bodies say where none is wrong
 pub record ValuesIn (m : List ℕ) (s : Located) (v : Values) : Type 0 where
   pub heads : HeadsIn m s (v .heads)
-  pub stts : saysBody (Body.Tells (v .stts)) (atLeast 16) (field m (s .minf .stts .at) 4) m (s .minf .stts .at)
-  pub stsc : saysBody (Body.Tells (v .stsc)) (atLeast 16) (field m (s .minf .stsc .at) 4) m (s .minf .stsc .at)
-  pub stco : saysBody (Body.Tells (v .stco)) (atLeast 16) (field m (s .minf .stco .at) 4) m (s .minf .stco .at)
-  pub stsz : saysBody (Body.Tells (v .stsz)) (atLeast 20) (field m (s .minf .stsz .at) 8) m (s .minf .stsz .at)
+  pub stts : saysBody (Reading.Tells (v .stts)) (atLeast 16) (field m (s .minf .stts .at) 4) m (s .minf .stts .at)
+  pub stsc : saysBody (Reading.Tells (v .stsc)) (atLeast 16) (field m (s .minf .stsc .at) 4) m (s .minf .stsc .at)
+  pub stco : saysBody (Reading.Tells (v .stco)) (atLeast 16) (field m (s .minf .stco .at) 4) m (s .minf .stco .at)
+  pub stsz : saysBody (Reading.Tells (v .stsz)) (atLeast 20) (field m (s .minf .stsz .at) 8) m (s .minf .stsz .at)
   pub trex : saysTrex (Trex.Of (v .trex) (v .defaults)) m (s .trex .at)
 
 -- rule 8 holds, with what the bodies tell; or it breaks at the first wrong one

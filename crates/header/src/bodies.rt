@@ -16,7 +16,7 @@ pub enum Mvhd {
 }
 
 // What a body tells: the number that later rules need of it, or that it is wrong.
-pub enum Body {
+pub enum Reading {
     Tells(u32),
     Wrong,
 }
@@ -66,27 +66,27 @@ fn read_mvhd(m: &[u8], b: Spot) -> Mvhd
 }
 
 // `tkhd` or `mdhd`, of one size in version 0 and another in version 1: the number behind its two times.
-fn read_timed(m: &[u8], b: Spot, zero: usize, one: usize) -> Body
+fn read_timed(m: &[u8], b: Spot, zero: usize, one: usize) -> Reading
     requires { ⌜ Stands (now m) b × (24 ≤ zero) × (32 ≤ one) ⌝ }
     ensures { λ r. ⌜ saysBody r (either zero one) (timed (now (m .entry)) (b .at)) (now (m .entry)) (b .at) ⌝ }
 {
     let v = fields::versioned(m, b, zero, one);
     match v {
-        Version::Zero => Body::Tells(fields::word(m, b, 12)),
-        Version::One => Body::Tells(fields::word(m, b, 20)),
-        Version::Wrong => Body::Wrong,
+        Version::Zero => Reading::Tells(fields::word(m, b, 12)),
+        Version::One => Reading::Tells(fields::word(m, b, 20)),
+        Version::Wrong => Reading::Wrong,
     }
 }
 
 // `hdlr` or a sample table, of at least a size: the number k bytes behind its header.
-fn read_least(m: &[u8], b: Spot, least: usize, k: usize) -> Body
+fn read_least(m: &[u8], b: Spot, least: usize, k: usize) -> Reading
     requires { ⌜ Stands (now m) b × (12 + k ≤ least) ⌝ }
     ensures { λ r. ⌜ saysBody r (atLeast least) (field (now (m .entry)) (b .at) k) (now (m .entry)) (b .at) ⌝ }
 {
     if fields::is_at_least(m, b, least) {
-        return Body::Tells(fields::word(m, b, k));
+        return Reading::Tells(fields::word(m, b, k));
     }
-    Body::Wrong
+    Reading::Wrong
 }
 
 // `trex`: 32 bytes, version 0.
@@ -111,16 +111,16 @@ fn rule8_tables(m: &[u8], s: Located, heads: Heads) -> Bodies
     requires { ⌜ LocatedIn (now m) s × HeadsIn (now m) s heads ⌝ }
     ensures { λ r. ⌜ BodiesAs r (now (m .entry)) s ⌝ }
 {
-    let Body::Tells(stts) = read_least(m, s.minf.stts, 16, 4) else {
+    let Reading::Tells(stts) = read_least(m, s.minf.stts, 16, 4) else {
         return Bodies::Wrong(s.minf.stts.at);
     };
-    let Body::Tells(stsc) = read_least(m, s.minf.stsc, 16, 4) else {
+    let Reading::Tells(stsc) = read_least(m, s.minf.stsc, 16, 4) else {
         return Bodies::Wrong(s.minf.stsc.at);
     };
-    let Body::Tells(stco) = read_least(m, s.minf.stco, 16, 4) else {
+    let Reading::Tells(stco) = read_least(m, s.minf.stco, 16, 4) else {
         return Bodies::Wrong(s.minf.stco.at);
     };
-    let Body::Tells(stsz) = read_least(m, s.minf.stsz, 20, 8) else {
+    let Reading::Tells(stsz) = read_least(m, s.minf.stsz, 20, 8) else {
         return Bodies::Wrong(s.minf.stsz.at);
     };
     let Trex::Of { id: trex, defaults } = read_trex(m, s.trex) else {
@@ -145,16 +145,16 @@ pub fn rule8(m: &[u8], s: Located) -> Bodies
     let Mvhd::Plain = read_mvhd(m, s.mvhd) else {
         return Bodies::Wrong(s.mvhd.at);
     };
-    let Body::Tells(id) = read_timed(m, s.trak.tkhd, 92, 104) else {
+    let Reading::Tells(id) = read_timed(m, s.trak.tkhd, 92, 104) else {
         return Bodies::Wrong(s.trak.tkhd.at);
     };
-    let Body::Tells(timescale) = read_timed(m, s.trak.mdhd, 32, 44) else {
+    let Reading::Tells(timescale) = read_timed(m, s.trak.mdhd, 32, 44) else {
         return Bodies::Wrong(s.trak.mdhd.at);
     };
-    let Body::Tells(handler) = read_least(m, s.trak.hdlr, 32, 8) else {
+    let Reading::Tells(handler) = read_least(m, s.trak.hdlr, 32, 8) else {
         return Bodies::Wrong(s.trak.hdlr.at);
     };
-    let Body::Tells(stsd) = read_least(m, s.minf.stsd, 16, 4) else {
+    let Reading::Tells(stsd) = read_least(m, s.minf.stsd, 16, 4) else {
         return Bodies::Wrong(s.minf.stsd.at);
     };
     let heads = Heads {

@@ -83,9 +83,11 @@ pub fn check(f: Ftyp, m: &[u8], head: usize) -> Headed
     let rule = s.rule;
     match rule {
         Rule::Breaks { number, place, .. } => Headed::Moov { number, place },
-        Rule::Holds => match f {
-            Ftyp::Wrong => Headed::Ftyp(8),
-            Ftyp::Branded(b) => check_bodies(b, m, s),
-        },
+        Rule::Holds => {
+            let Ftyp::Branded(branded) = f else {
+                return Headed::Ftyp(8);
+            };
+            check_bodies(branded, m, s)
+        }
     }
 }

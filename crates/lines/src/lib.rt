@@ -3,7 +3,8 @@ use rules::Verdict;
 ghost use mathlib.Core.List.{_∷_, []};
 ghost use Prim.Native.Nat.{_+_, _*_, _≤_, _<_};
 ghost use lib.ListN.{length, take};
-ghost use Rattle.lines.specs.Lines.{digit, decimal, field, lineEnd, acceptedLine, refusedLine, tickLine, tickLines, overLine, setLines, spaced, caseLine};
+ghost use Rattle.lines.specs.Lines.{digit, decimal, field, lineEnd, spaced, caseLine};
+ghost use Rattle.lines.specs.Lines.{acceptedLine, refusedLine, tickLine, tickLines, overLine, setLines};
 ghost use Rattle.lines.specs.Puts.{Put, Line};
 
 // Puts the digit of a number below 10 at a place, and answers the next place.

@@ -1,5 +1,5 @@
 -- Rules 14 to 22: one fragment, over the whole bytes of its `moof` (m), the header length and the payload length of its `mdat`, and a few
--- numbers: what the header tells (the track ID, id; the `trex` defaults, d) and the previous end (prev). A place is one in those bytes.
+-- numbers: what the header tells (the track ID, id; the `trex` defaults, d) and the previous end (prev). A place is one in those bytes, or their end.
 use Prim.Native.Nat.{ℕ, zero, suc, _+_, _*_}
 use mathlib.Core.List.{List, [], _∷_}
 use mathlib.Core.Bool.{Bool, true, false, not, _&&_}

@@ -5,15 +5,15 @@ use Rattle.header.proofs.Checked.{seven-breaks, ftyp-wrong}
 use Rattle.header.proofs.check.Statement.{statement}
 use Rattle.header.proofs.check.Tie as tie
 
+returns : tie.Need-returns
+returns c =
+    rw (c .enum-told2 .given .1) (ftyp-wrong _ (sym (c .before .before .before .before .rule7 .ensures .rule .is) ∙ c .before .before .enum-told .given .1))
+
 check-bodies-requires : tie.Need-check-bodies-requires
 check-bodies-requires c κs = let h = c .before .before .before .before .before .rule7 .ensures in (h, sym (h .rule .is) ∙ c .before .before .before .enum-told .given .1)
 
-returns : tie.Need-returns
-returns c = seven-breaks _ _ (c .before .before .before .rule7 .ensures .rule) (c .before .rule .given .1)
-
 returns-2 : tie.Need-returns-2
-returns-2 c =
-    rw (c .enum-told2 .given .1) (ftyp-wrong _ (sym (c .before .before .before .before .rule7 .ensures .rule .is) ∙ c .before .before .enum-told .given .1))
+returns-2 c = seven-breaks _ _ (c .before .before .before .rule7 .ensures .rule) (c .before .rule .given .1)
 
 returns-3 : tie.Need-returns-3
 returns-3 c = rw (c .before .before .f .given .1) (c .check-bodies .ensures)
@@ -27,7 +27,7 @@ check-spec =
     (λ c. search needs)
     (λ c. search needs)
     (λ c. search needs)
-    check-bodies-requires
     returns
+    check-bodies-requires
     returns-2
     returns-3)
