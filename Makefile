@@ -12,7 +12,7 @@ ARCHIVE := $(if $(FLANGEMINT_LIB_DIR),,archive)
 
 .DEFAULT_GOAL := help
 .PHONY: help check test ground fmt archive cli test-cli c-check sentences python-test test-scripts trials stack bench \
-    slowest fuzz samples expected vectors readme report-test
+    slowest fuzz samples expected vectors readme report-test names
 
 help: ## this list
 	@awk -F ':.*## ' '/^[a-z-]+:.*## / { printf "  %-13s %s\n", $$1, $$2 }' Makefile
@@ -47,6 +47,9 @@ c-check: $(ARCHIVE) sentences ## c/check.c against header and library, on sample
 
 sentences: ## flangemint_sentence against docs/REFUSALS.md (a C compiler, python3)
 	CC='$(CC)' tools/sentences check
+
+names: ## a name of src, specs or proofs stands for one thing (python3)
+	tools/names
 
 python-test: archive ## the Python module, its page and its tests (python3)
 	PYTHONPATH=python python3 -B -m doctest python/README.md python/flangemint.py

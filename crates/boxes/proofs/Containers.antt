@@ -5,5 +5,5 @@ use Rattle.rules.specs.Boxes.{inside}
 use Rattle.rules.specs.declared.Path.{Path}
 
 -- what is inside is what is inside an equal type on an equal path
-pub same : {p q : Path} {k a : ℕ} → p ≡ q → k ≡ a → inside q a ≡ inside p k
-same e f = cc
+pub same-inside : {p q : Path} {k a : ℕ} → p ≡ q → k ≡ a → inside q a ≡ inside p k
+same-inside e f = cc

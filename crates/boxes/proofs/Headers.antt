@@ -8,8 +8,8 @@ use borrow.Author.Tests.{lt-ltb, le-ltb, eq-eqb, ne-eqb}
 use Rattle.numbers.specs.Numbers.{be4, be8}
 use Rattle.rules.specs.Boxes.{look, lookAt, sized}
 use Rattle.rules.specs.declared.Look.{Look}
-use Rattle.rules.specs.declared.Look.the-variants.{Nothing, Short, Small, Beyond, Header}
-use Rattle.rules.proofs.Forest.{Found, look-found}
+use Rattle.rules.specs.declared.Look.the-variants.{Nothing, Short, Small, Beyond, Good}
+use Rattle.rules.proofs.Forest.{FoundBox, look-found}
 use Rattle.boxes.specs.Bounds.{lookBounds}
 
 -- what is looked up keeps its bounds
@@ -18,8 +18,8 @@ bounds s at Nothing e = tt
 bounds s at Short e = tt
 bounds s at Small e = tt
 bounds s at Beyond e = tt
-bounds s at (Header h z k) e =
-    let f : Found s at h z k = look-found s at h z k (sym e) in
+bounds s at (Good h z k) e =
+    let f : FoundBox s at h z k = look-found s at h z k (sym e) in
     (f .low, f .high, f .holds, f .fits)
 
 -- an answer with its bounds

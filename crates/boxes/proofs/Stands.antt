@@ -9,7 +9,7 @@ use lib.Dec.{eqb}
 use Rattle.numbers.specs.Numbers.{be4, be8, when}
 use Rattle.numbers.proofs.Bounds.{Reads, reads4, reads8, in-take}
 use Rattle.rules.specs.Boxes.{headOf, sizeOf}
-use Rattle.rules.proofs.Forest.{Found}
+use Rattle.rules.proofs.Forest.{FoundBox}
 use Rattle.boxes.specs.Stands.{Stands}
 
 -- a slice that is the front of another
@@ -21,7 +21,7 @@ module _ (m s : List ℕ) (e : s ≡ take (length s) m) where
   in-front {f = f} r i h = ap (λ (t : List ℕ). f t i) e ∙ in-take r (length s) m i h
 
   -- a box met in it stands so in the other too
-  pub stands : {at h z k : ℕ} → Found s at h z k → Stands m (record { at = at; head = h; size = z })
+  pub stands : {at h z k : ℕ} → FoundBox s at h z k → Stands m (record { at = at; head = h; size = z })
   unfolding headOf sizeOf
   stands {at} {h} {z} {k} d =
       let short : be4 s at ≡ be4 m at = in-front reads4 at (omega (arith, d)) in
@@ -42,6 +42,6 @@ module _ (m s : List ℕ) (e : s ≡ take (length s) m) where
       }
 
 -- in the slice itself
-pub stands-here : {s : List ℕ} {at h z k : ℕ} → Found s at h z k → Stands s (record { at = at; head = h; size = z })
+pub stands-here : {s : List ℕ} {at h z k : ℕ} → FoundBox s at h z k → Stands s (record { at = at; head = h; size = z })
 stands-here d =
     record { head = d .head; size = d .size; low = d .low; high = d .high; holds = d .holds; fits = d .fits }

@@ -4,7 +4,7 @@ use mathlib.Core.Path.{_≡_}
 use mathlib.Core.List.{List}
 use lib.ListN.{length}
 use Rattle.rules.specs.Boxes.{headOf, sizeOf}
-use Rattle.boxes.specs.declared.Spot.{Spot}
+use Rattle.rules.specs.declared.Spot.{Spot}
 
 -- a box stands there with that header length and size, and ends in the slice
 pub record Stands (s : List ℕ) (b : Spot) : Type 0 where
@@ -14,6 +14,11 @@ pub record Stands (s : List ℕ) (b : Spot) : Type 0 where
   pub high : b .head ≤ 16
   pub holds : b .head ≤ b .size
   pub fits : b .at + b .size ≤ length s
+
+-- a box stands at a place of the slice
+pub record StandsAt (s : List ℕ) (p : ℕ) (b : Spot) : Type 0 where
+  pub stands : Stands s b
+  pub place : b .at ≡ p
 
 -- the slice is one box with a header of h bytes
 abbrev pub Whole : List ℕ → ℕ → Type 0

@@ -32,7 +32,7 @@ fn sized(length: usize, at: usize, head: usize, size: usize, kind: u32) -> Look
     if length - at < size {
         return Look::Beyond;
     }
-    Look::Header { head, size, kind }
+    Look::Good { head, size, kind }
 }
 
 // What stands at a place of a run of boxes.
@@ -67,40 +67,33 @@ pub fn inside(path: Path, kind: u32) -> Inside
 {
     match path {
         Path::Top => match kind {
-            MOOV => Inside::Holds(Path::Moov),
-            MOOF => Inside::Holds(Path::Moof),
+            MOOV => Inside::Container(Path::Moov),
+            MOOF => Inside::Container(Path::Moof),
             _ => Inside::Leaf,
         },
         Path::Moov => match kind {
-            TRAK => Inside::Holds(Path::Trak),
-            MVEX => Inside::Holds(Path::Flat),
+            TRAK => Inside::Container(Path::Trak),
+            MVEX => Inside::Container(Path::Flat),
             _ => Inside::Leaf,
         },
         Path::Moof => match kind {
-            TRAF => Inside::Holds(Path::Flat),
+            TRAF => Inside::Container(Path::Flat),
             _ => Inside::Leaf,
         },
         Path::Trak => match kind {
-            EDTS => Inside::Holds(Path::Flat),
-            MDIA => Inside::Holds(Path::Mdia),
+            EDTS => Inside::Container(Path::Flat),
+            MDIA => Inside::Container(Path::Mdia),
             _ => Inside::Leaf,
         },
         Path::Mdia => match kind {
-            MINF => Inside::Holds(Path::Minf),
+            MINF => Inside::Container(Path::Minf),
             _ => Inside::Leaf,
         },
         Path::Minf => match kind {
-            DINF => Inside::Holds(Path::Flat),
-            STBL => Inside::Holds(Path::Flat),
+            DINF => Inside::Container(Path::Flat),
+            STBL => Inside::Container(Path::Flat),
             _ => Inside::Leaf,
         },
         Path::Flat => Inside::Leaf,
     }
-}
-
-// Where a box stands in a slice: its place, its header's length and its whole size.
-pub struct Spot {
-    pub at: usize,
-    pub head: usize,
-    pub size: usize,
 }

@@ -46,10 +46,10 @@ bundle-length [] = refl
 bundle-length (s ∷ ss) = omega (arith, length-append (recordOf s) (bundleOf ss), bundle-length ss)
 
 -- within the limit each length fits in four bytes
-lengthed : (ss : List (List ℕ)) → bundleLength (map length ss) ≤ byteLimit → Lengthed ss
+each-fits : (ss : List (List ℕ)) → bundleLength (map length ss) ≤ byteLimit → Lengthed ss
 unfolding bundleLength
-lengthed [] h = tt
-lengthed (s ∷ ss) h = (omega arith, lengthed ss (omega arith))
+each-fits [] h = tt
+each-fits (s ∷ ss) h = (omega arith, each-fits ss (omega arith))
 
 -- 1 to 16 tracks whose lengths are within the limit: their bundle breaks neither 1 nor 24, and its tracks are those
 pub bundled : (ss : List (List ℕ)) → 0 < length ss → length ss ≤ 16 → bundleLength (map length ss) ≤ byteLimit
@@ -57,6 +57,6 @@ pub bundled : (ss : List (List ℕ)) → 0 < length ss → length ss ≤ 16 → 
 unfolding rule1
 bundled ss some few h = (
   must-true 1 0 (le-leb (length (bundleOf ss)) byteLimit (omega (arith, bundle-length ss))),
-  packed ss some few (lengthed ss h),
-  unpacked ss few (lengthed ss h),
+  packed ss some few (each-fits ss h),
+  unpacked ss few (each-fits ss h),
 )

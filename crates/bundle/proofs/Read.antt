@@ -63,13 +63,13 @@ unfolding recordsFrom
 full b at k h = ap (λ (l : ℕ). recordsFrom l b at) (let z : recordLimit - k ≡ 0 = omega arith in z)
 
 -- k records were good, and the bundle comes to what is left from `at` on
-pub record Going (b : List ℕ) (at k : ℕ) : Type 0 where
+pub record RecordsTo (b : List ℕ) (at k : ℕ) : Type 0 where
   pub rule : rule24 b ≡ rule24From k (recordsFrom (recordLimit - k) b at)
   pub count : length (tracks b) ≡ k + length (tracksOf b (recordsFrom (recordLimit - k) b at))
   pub few : k ≤ recordLimit
   pub inner : at ≤ length b
 
-pub going-begins : (b : List ℕ) → Going b 0 0
+pub going-begins : (b : List ℕ) → RecordsTo b 0 0
 unfolding rule24 tracks records
 going-begins b = record { rule = refl; count = omega arith; few = omega arith; inner = omega arith }
 
@@ -80,9 +80,9 @@ ended-says b zero e f = (e, sym f)
 ended-says b (suc k) e f =
     rw (eqb·suc-zero k) (e ∙ ap (λ (t : Bool). when t (Breaks 24 0 0) Holds) (eqb·suc-zero k), sym f, omega arith)
 
-module _ (b : List ℕ) {at k : ℕ} (g : Going b at k) where
+module _ (b : List ℕ) {at k : ℕ} (g : RecordsTo b at k) where
   module _ (h : k < recordLimit) where
-    pub going-on : {n : ℕ} {r : Mark} → r ≡ recordAt b at → r ≡ Track n → at + 6 + n ≤ length b → Going b (at + 6 + n) (k + 1)
+    pub going-on : {n : ℕ} {r : Mark} → r ≡ recordAt b at → r ≡ Track n → at + 6 + n ≤ length b → RecordsTo b (at + 6 + n) (k + 1)
     unfolding rule24From tracksOf
     going-on {n} e f i =
         record {

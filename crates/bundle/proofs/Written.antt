@@ -51,37 +51,37 @@ behind : {m : ℕ} {f : List ℕ → ℕ → ℕ} → Reads m f → (p q : List 
 behind {f = f} r p q i = sym (in-drop r (length p) (p ++ q) i) ∙ ap (λ (l : List ℕ). f l i) (drop-append-seam p q)
 
 -- a header for n bytes and n bytes behind it are a track of n bytes, wherever they stand in a bundle
-pub framed : (p : List ℕ) (n : ℕ) (rest : List ℕ) → n < 2 ^ 32 → n ≤ length rest → recordAt (p ++ (frontOf n ++ rest)) (length p) ≡ Track n
+pub front-tells : (p : List ℕ) (n : ℕ) (rest : List ℕ) → n < 2 ^ 32 → n ≤ length rest → recordAt (p ++ (frontOf n ++ rest)) (length p) ≡ Track n
 unfolding be2 be4
-framed p n rest h g =
+front-tells p n rest h g =
     let q = frontOf n ++ rest in
     let b = p ++ q in
     let start : be2 b (length p) ≡ be2 b (length p + 0) = ap (be2 b) (sym (add-zero (length p))) in
     marked b (length p) n (omega (arith, length-append p q)) (start ∙ behind reads2 p q 0 ∙ refl) (behind reads4 p q 2 ∙ bytes n h)
 
 -- the records of tracks that stand one behind the other from a place on
-shape : ℕ → List (List ℕ) → Records
-shape at [] = none
-shape at (s ∷ ss) = track (at + 6) (length s) (shape (at + 6 + length s) ss)
+standing : ℕ → List (List ℕ) → Records
+standing at [] = none
+standing at (s ∷ ss) = track (at + 6) (length s) (standing (at + 6 + length s) ss)
 
 shaped : (f : ℕ) (p : List ℕ) (ss : List (List ℕ)) → length ss ≤ f → Lengthed ss
-    → recordsFrom f (p ++ bundleOf ss) (length p) ≡ shape (length p) ss
-unfolding recordsFrom bundleOf shape
+    → recordsFrom f (p ++ bundleOf ss) (length p) ≡ standing (length p) ss
+unfolding recordsFrom bundleOf standing
 shaped zero p [] h w = rw (le-ltb (length p) (length (p ++ [])) (omega (arith, length-append p [])))
 shaped (suc f) p [] h w = rw (nothing (p ++ []) (length p) (omega (arith, length-append p [])))
 shaped zero p (s ∷ ss) h w = absurd (omega arith)
 shaped (suc f) p (s ∷ ss) h w =
     let rest = s ++ bundleOf ss in
     let next : length (p ++ recordOf s) ≡ length p + 6 + length s = omega (arith, length-append p (recordOf s)) in
-    rw (framed p (length s) rest (w .0) (omega (arith, length-append s (bundleOf ss))))
+    rw (front-tells p (length s) rest (w .0) (omega (arith, length-append s (bundleOf ss))))
     (ap (track (length p + 6) (length s))
     (ap₂ (recordsFrom f) (sym (append-assoc p (recordOf s) (bundleOf ss))) (sym next)
     ∙ shaped f (p ++ recordOf s) ss (omega arith) (w .1)
-    ∙ ap (λ (n : ℕ). shape n ss) next))
+    ∙ ap (λ (n : ℕ). standing n ss) next))
 
 -- tracks that stand one behind the other break 24 only where there is none
-held : (k at : ℕ) (ss : List (List ℕ)) → 0 < k + length ss → rule24From k (shape at ss) ≡ Holds
-unfolding rule24From shape
+held : (k at : ℕ) (ss : List (List ℕ)) → 0 < k + length ss → rule24From k (standing at ss) ≡ Holds
+unfolding rule24From standing
 held k at [] h = rw (ne-eqb k 0 (λ e. absurd (omega arith)))
 held k at (s ∷ ss) h = held (k + 1) (at + 6 + length s) ss (omega arith)
 
@@ -91,15 +91,15 @@ unfolding rule24 records
 packed ss h g w = ap (rule24From 0) (shaped 16 [] ss g w) ∙ held 0 0 ss (omega arith)
 
 -- the tracks of records that stand one behind the other
-given : (p : List ℕ) (ss : List (List ℕ)) → tracksOf (p ++ bundleOf ss) (shape (length p) ss) ≡ ss
-unfolding tracksOf bundleOf shape
+given : (p : List ℕ) (ss : List (List ℕ)) → tracksOf (p ++ bundleOf ss) (standing (length p) ss) ≡ ss
+unfolding tracksOf bundleOf standing
 given p [] = refl
 given p (s ∷ ss) =
     let rest = s ++ bundleOf ss in
     let next : length (p ++ recordOf s) ≡ length p + 6 + length s = omega (arith, length-append p (recordOf s)) in
     ap₂ (_∷_)
     (ap (take (length s)) (drop-append-add p (frontOf (length s) ++ rest) 6) ∙ take-append-seam s (bundleOf ss))
-    (ap₂ tracksOf (sym (append-assoc p (recordOf s) (bundleOf ss))) (ap (λ (n : ℕ). shape n ss) (sym next))
+    (ap₂ tracksOf (sym (append-assoc p (recordOf s) (bundleOf ss))) (ap (λ (n : ℕ). standing n ss) (sym next))
     ∙ given (p ++ recordOf s) ss)
 
 -- and its tracks are those that were bundled

@@ -10,7 +10,7 @@ use Rattle.rules.specs.declared.Mark.{Mark}
 use Rattle.rules.specs.declared.Mark.the-variants.{Nothing, Wrong, Track}
 use Rattle.rules.specs.declared.Rule.the-variants.{Holds, Breaks}
 use Rattle.bundle.specs.declared.Bundled.{Bundled}
-use Rattle.bundle.specs.declared.Bundled.the-variants.{Records, Broken}
+use Rattle.bundle.specs.declared.Bundled.the-variants.{Good, Broken}
 
 -- a record's track ends in the bundle's n bytes
 abbrev pub markBounds : Mark → ℕ → ℕ → Type 0
@@ -20,9 +20,9 @@ markBounds (Track z) n at = at + 6 + z ≤ n
 
 -- rule 24 holds, with the number of tracks; or it breaks at a record, with the good records before it
 abbrev pub saysBundle : Bundled → List ℕ → Type 0
-saysBundle (Records k) b = (rule24 b ≡ Holds) × (k ≡ length (tracks b)) × (1 ≤ k)
+saysBundle (Good k) b = (rule24 b ≡ Holds) × (k ≡ length (tracks b)) × (1 ≤ k)
 saysBundle (Broken k p) b = (rule24 b ≡ Breaks 24 k p) × (k ≡ length (tracks b))
 
 -- where no bytes are left after k records
 abbrev pub endedOf : ℕ → Bundled
-endedOf k = when (eqb k 0) (Broken 0 0) (Records k)
+endedOf k = when (eqb k 0) (Broken 0 0) (Good k)

@@ -14,7 +14,7 @@ const MARK: u32 = 0x5357;
 
 // How a bundle is framed: its number of records, or the first bad one with the good ones before it.
 pub enum Bundled {
-    Records(u64),
+    Good(u64),
     Broken { track: u64, place: u64 },
 }
 
@@ -41,7 +41,7 @@ pub fn record_at(b: &[u8], at: usize) -> Mark
 }
 
 // Rule 24 of a bundle.
-pub fn frame(b: &[u8]) -> Bundled
+pub fn frame_records(b: &[u8]) -> Bundled
     ensures { λ r. ⌜ saysBundle r (now (b .entry)) ⌝ }
 {
     let mut at: usize = 0;
@@ -50,7 +50,7 @@ pub fn frame(b: &[u8]) -> Bundled
         let mark = record_at(b, at);
         match mark {
             Mark::Nothing => {
-                return ended(k);
+                return records_end(k);
             }
             Mark::Wrong => {
                 return Bundled::Broken {
@@ -70,26 +70,26 @@ pub fn frame(b: &[u8]) -> Bundled
             place: at as u64,
         };
     }
-    ended(k)
+    records_end(k)
 }
 
 // Where no bytes are left after some records: no record at all breaks rule 24.
-fn ended(k: u64) -> Bundled
+fn records_end(k: u64) -> Bundled
     ensures { λ r. ⌜ r ≡ endedOf k ⌝ }
 {
     if k == 0 {
         return Bundled::Broken { track: 0, place: 0 };
     }
-    Bundled::Records(k)
+    Bundled::Good(k)
 }
 
 // How many tracks a bundle has: its good records.
-pub fn tracks(b: &[u8]) -> u64
+pub fn count_tracks(b: &[u8]) -> u64
     ensures { λ r. ⌜ r ≡ length (tracks (now (b .entry))) ⌝ }
 {
-    match frame(b) {
+    match frame_records(b) {
         Bundled::Broken { track, place: _ } => track,
-        Bundled::Records(k) => k,
+        Bundled::Good(k) => k,
     }
 }
 

@@ -15,9 +15,9 @@ use Rattle.rules.specs.declared.Entry.the-variants.{Nothing, One, AtMostOne, On
 use Rattle.rules.specs.declared.Rule.{Rule}
 use Rattle.rules.specs.declared.Rule.the-variants.{Holds, Breaks}
 use Rattle.rules.proofs.Then.{then-last}
-use Rattle.rules.proofs.Forest.{Found}
+use Rattle.rules.proofs.Forest.{FoundBox}
 use Rattle.boxes.specs.Stands.{Stands}
-use Rattle.boxes.specs.declared.Spot.{Spot}
+use Rattle.rules.specs.declared.Spot.{Spot}
 use Rattle.boxes.proofs.Stands.{stands}
 use Rattle.counts.specs.Sights.{seenBy, seenOf, StandsIn, Keeps, Saw, Tallied, Sighted, Counts}
 use Rattle.counts.specs.declared.Three.{Three}
@@ -28,7 +28,7 @@ use Rattle.counts.proofs.Plain.{sees, counted-any}
 module _ (m s : List ℕ) (e : s ≡ take (length s) m) where
   stands-whole : (b : Spot) → Stands s b → Stands m b
   stands-whole b h =
-      let d : Found s (b .at) (b .head) (b .size) (kindOf s (b .at)) =
+      let d : FoundBox s (b .at) (b .head) (b .size) (kindOf s (b .at)) =
       record {
         head = h .head;
         size = h .size;

@@ -65,8 +65,8 @@ module _ (n i p : ℕ) where
       let b : i ≡ 1 → ⊥ = eqb-false i 1 z in
       absurd (omega (arith, h, a, b))
 
-  pub few : i ≤ 1 → Holds ≡ atMostOneOf n (seenBy i p p)
-  few = few-by (eqb i 0) (eqb i 1) refl refl
+  pub at-most-one : i ≤ 1 → Holds ≡ atMostOneOf n (seenBy i p p)
+  at-most-one = few-by (eqb i 0) (eqb i 1) refl refl
 
   pub many : 1 < i → Breaks n 0 p ≡ atMostOneOf n (seenBy i p p)
   unfolding atMostOneOf

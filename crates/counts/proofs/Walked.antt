@@ -12,10 +12,10 @@ use Rattle.rules.specs.Boxes.{look, boxes}
 use Rattle.rules.specs.Counts.{wanted, again, seen, seenFrom}
 use Rattle.rules.specs.declared.Entry.{Entry}
 use Rattle.rules.specs.declared.Look.{Look}
-use Rattle.rules.specs.declared.Look.the-variants.{Header}
+use Rattle.rules.specs.declared.Look.the-variants.{Good}
 use Rattle.rules.proofs.Forest.{seen-box, seen-end}
 use Rattle.boxes.specs.Stands.{Stands}
-use Rattle.boxes.specs.declared.Spot.{Spot}
+use Rattle.rules.specs.declared.Spot.{Spot}
 use Rattle.boxes.proofs.Stands.{stands-here}
 use Rattle.boxes.proofs.Walks.{told-header, found}
 use Rattle.counts.specs.Sights.{seenOf, againAt, Keeps, Saw}
@@ -41,24 +41,24 @@ module _ (x : Spot) (v : Sight) where
   keeps-again = keeps-by (eqb (v .count) 0) (eqb (v .count) 1) refl refl
 
 -- what is seen of an entry from a place on is v and what is seen from `at` on
-pub record Going (s : List ℕ) (k : Spot) (from at : ℕ) (e : Entry) (v : Sight) : Type 0 where
+pub record SeenTo (s : List ℕ) (k : Spot) (from at : ℕ) (e : Entry) (v : Sight) : Type 0 where
   pub all : seen e (boxes s from) ≡ seenFrom (seenOf v) e (boxes s at)
   pub keeps : Keeps s k v
 
 pub going-none :
-    (s : List ℕ) (k : Spot) (from : ℕ) (e : Entry) → from ≤ length s → Going s k from from e (record { count = 0; first = k; second = from })
+    (s : List ℕ) (k : Spot) (from : ℕ) (e : Entry) → from ≤ length s → SeenTo s k from from e (record { count = 0; first = k; second = from })
 going-none s k from e l = record { all = refl; keeps = record { first = refl; stands = inl refl; second = l } }
 
-pub going-all : {s : List ℕ} {k : Spot} {from at : ℕ} {e : Entry} {v : Sight} → Going s k from at e v → boxes s at ≡ [] → Saw s k from e v
+pub going-all : {s : List ℕ} {k : Spot} {from at : ℕ} {e : Entry} {v : Sight} → SeenTo s k from at e v → boxes s at ≡ [] → Saw s k from e v
 going-all {s} {k} {from} {at} {e} {v} g o = record { all = sym (g .all ∙ seen-end s at (seenOf v) e o); keeps = g .keeps }
 
 -- past a box that is wanted, and past one that is not
-module _ (s : List ℕ) (at : ℕ) {h z k : ℕ} {l : Look} (e : l ≡ look s at) (t : l ≡ Header h z k) {c : Spot} {from : ℕ} {w : Entry} {v : Sight}
-    (g : Going s c from at w v) where
+module _ (s : List ℕ) (at : ℕ) {h z k : ℕ} {l : Look} (e : l ≡ look s at) (t : l ≡ Good h z k) {c : Spot} {from : ℕ} {w : Entry} {v : Sight}
+    (g : SeenTo s c from at w v) where
   more : (b : Bool) → wanted w k ≡ b → seen w (boxes s from) ≡ seenFrom (when b (again at (seenOf v)) (seenOf v)) w (boxes s (at + z))
   more b q = g .all ∙ rw (← q) (seen-box s at (seenOf v) w h z k (told-header s at e t))
 
-  pub going-hit : {r x : Sight} → wanted w k ≡ true → r ≡ againAt (record { at = at; head = h; size = z }) v → x ≡ r → Going s c from (at + z) w x
+  pub going-hit : {r x : Sight} → wanted w k ≡ true → r ≡ againAt (record { at = at; head = h; size = z }) v → x ≡ r → SeenTo s c from (at + z) w x
   going-hit {r} {x} q a f =
       let b : Spot = record { at = at; head = h; size = z } in
       rw (f, a)
@@ -67,5 +67,5 @@ module _ (s : List ℕ) (at : ℕ) {h z k : ℕ} {l : Look} (e : l ≡ look s at
         keeps = keeps-again b v (stands-here (found s at e t)) (g .keeps);
       })
 
-  pub going-miss : {x : Sight} → wanted w k ≡ false → x ≡ v → Going s c from (at + z) w x
+  pub going-miss : {x : Sight} → wanted w k ≡ false → x ≡ v → SeenTo s c from (at + z) w x
   going-miss q f = rw f (record { all = more false q; keeps = g .keeps })

@@ -7,10 +7,10 @@ ghost use Rattle.rules.specs.Rules.{placedUpTo};
 ghost use Rattle.rules.specs.Counts.{wanted, oneOf, atMostOneOf, someOf, counted, counts, countsIf};
 ghost use Rattle.boxes.specs.Stands.{Stands};
 ghost use Rattle.counts.specs.Sights.{seenBy, seenOf, StandsIn, againAt, Tallied, Counts};
-use boxes::Spot;
 use rules::Entry;
 use rules::Look;
 use rules::Rule;
+use rules::Spot;
 
 // What is seen of an entry: no box, one, or more (then the count is 2); the first of them, or the container where there is none;
 // and the place of the second, or the place where the container's boxes begin where there is none.
@@ -50,7 +50,7 @@ fn wanted(e: Entry, kind: u32) -> bool
 }
 
 // What is seen after one box more, given by its numbers: the compiler then keeps them in registers.
-fn again(v: Sight, at: usize, head: usize, size: usize) -> Sight
+fn again_at(v: Sight, at: usize, head: usize, size: usize) -> Sight
     ensures { λ r. ⌜ r ≡ againAt (record { at = at; head = head; size = size }) v ⌝ }
 {
     if v.count == 0 {
@@ -164,24 +164,24 @@ fn tally(s: &[u8], k: Spot, from: usize, a: Entry, b: Entry, c: Entry) -> Three
     };
     loop {
         let l = boxes::look(s, at);
-        let Look::Header { head, size, kind } = l else {
+        let Look::Good { head, size, kind } = l else {
             return Three { a: u, b: v, c: x };
         };
         if wanted(a, kind) {
-            u = again(u, at, head, size);
+            u = again_at(u, at, head, size);
         }
         if wanted(b, kind) {
-            v = again(v, at, head, size);
+            v = again_at(v, at, head, size);
         }
         if wanted(c, kind) {
-            x = again(x, at, head, size);
+            x = again_at(x, at, head, size);
         }
         at += size;
     }
 }
 
 // The counts in the container that stands there, entry by entry, in one walk over its boxes.
-pub fn counts(number: u64, m: &[u8], x: Spot, a: Entry, b: Entry, c: Entry) -> Counted
+pub fn count_boxes(number: u64, m: &[u8], x: Spot, a: Entry, b: Entry, c: Entry) -> Counted
     requires { ⌜ Stands (now m) x ⌝ }
     ensures { λ r. ⌜ Counts number (now (m .entry)) (x .at) a b c r ⌝ }
 {
@@ -211,7 +211,7 @@ fn alone(number: u64, m: &[u8], x: Spot, e: Entry) -> Rule
     ensures { λ r. ⌜ r ≡ counts number (now (m .entry)) (x .at) (e ∷ []) ⌝ }
     ensures { λ r. ⌜ placedUpTo (length (now (m .entry))) r ⌝ }
 {
-    let all = counts(number, m, x, e, Entry::Nothing, Entry::Nothing);
+    let all = count_boxes(number, m, x, e, Entry::Nothing, Entry::Nothing);
     all.rule
 }
 

@@ -10,7 +10,7 @@ use borrow.Author.Tests.{eq-eqb, ne-eqb, eqb-true, leb-true, leb-false}
 use Rattle.numbers.specs.Numbers.{byte, when}
 use Rattle.rules.specs.Fields.{shortSize, version, either, plain, atLeast, hasForm}
 use Rattle.boxes.specs.Stands.{Stands}
-use Rattle.boxes.specs.declared.Spot.{Spot}
+use Rattle.rules.specs.declared.Spot.{Spot}
 
 module _ (s : List ℕ) (b : Spot) (st : Stands s b) where
   -- the size with the short header, by the bytes behind the header
@@ -19,11 +19,11 @@ module _ (s : List ℕ) (b : Spot) (st : Stands s b) where
   short-is = rw (st .head, st .size)
 
   -- it is a size, and it is not
-  pub sized : (a : ℕ) → 8 ≤ a → b .size - b .head ≡ a - 8 → eqb (shortSize s (b .at)) a ≡ true
-  sized a l e = eq-eqb (shortSize s (b .at)) a (omega (arith, short-is, e, l))
+  pub of-size : (a : ℕ) → 8 ≤ a → b .size - b .head ≡ a - 8 → eqb (shortSize s (b .at)) a ≡ true
+  of-size a l e = eq-eqb (shortSize s (b .at)) a (omega (arith, short-is, e, l))
 
-  pub unsized : (a : ℕ) → 8 ≤ a → (b .size - b .head ≡ a - 8 → ⊥) → eqb (shortSize s (b .at)) a ≡ false
-  unsized a l n = ne-eqb (shortSize s (b .at)) a (λ e. n (omega (arith, short-is, e, l)))
+  pub not-of-size : (a : ℕ) → 8 ≤ a → (b .size - b .head ≡ a - 8 → ⊥) → eqb (shortSize s (b .at)) a ≡ false
+  not-of-size a l n = ne-eqb (shortSize s (b .at)) a (λ e. n (omega (arith, short-is, e, l)))
 
   -- the version, by the byte behind the header
   pub version-is : version s (b .at) ≡ byte s (b .at + b .head)
@@ -33,12 +33,12 @@ module _ (s : List ℕ) (b : Spot) (st : Stands s b) where
   -- version 0 with its size, version 1 with its size, and neither
   pub is-zero : (a c : ℕ) → 8 ≤ a → b .size - b .head ≡ a - 8 → byte s (b .at + b .head) ≡ 0 → hasForm (either a c) s (b .at) ≡ true
   unfolding hasForm
-  is-zero a c l e v = rw (eq-eqb (version s (b .at)) 0 (version-is ∙ v), sized a l e)
+  is-zero a c l e v = rw (eq-eqb (version s (b .at)) 0 (version-is ∙ v), of-size a l e)
 
   pub is-one : (a c : ℕ) → 8 ≤ c → b .size - b .head ≡ c - 8 → byte s (b .at + b .head) ≡ 1 → hasForm (either a c) s (b .at) ≡ true
   unfolding hasForm
   is-one a c l e v =
-      rw (ne-eqb (version s (b .at)) 0 (λ z. omega (arith, z, version-is, v)), eq-eqb (version s (b .at)) 1 (version-is ∙ v), sized c l e)
+      rw (ne-eqb (version s (b .at)) 0 (λ z. omega (arith, z, version-is, v)), eq-eqb (version s (b .at)) 1 (version-is ∙ v), of-size c l e)
 
   pub is-neither : (a c : ℕ) → 8 ≤ a → 8 ≤ c → (b .size - b .head ≡ a - 8 → byte s (b .at + b .head) ≡ 0 → ⊥)
       → (b .size - b .head ≡ c - 8 → byte s (b .at + b .head) ≡ 1 → ⊥) → hasForm (either a c) s (b .at) ≡ false
@@ -47,14 +47,14 @@ module _ (s : List ℕ) (b : Spot) (st : Stands s b) where
     where
       go : (t u : Bool) → eqb (version s (b .at)) 0 ≡ t → eqb (version s (b .at)) 1 ≡ u
           → when t (eqb (shortSize s (b .at)) a) (when u (eqb (shortSize s (b .at)) c) false) ≡ false
-      go true u p q = unsized a l (λ e. f e (sym version-is ∙ eqb-true (version s (b .at)) 0 p))
-      go false true p q = unsized c k (λ e. g e (sym version-is ∙ eqb-true (version s (b .at)) 1 q))
+      go true u p q = not-of-size a l (λ e. f e (sym version-is ∙ eqb-true (version s (b .at)) 0 p))
+      go false true p q = not-of-size c k (λ e. g e (sym version-is ∙ eqb-true (version s (b .at)) 1 q))
       go false false p q = refl
 
   -- version 0 and a size
   pub plain-is : (a : ℕ) → 8 ≤ a → b .size - b .head ≡ a - 8 → hasForm (plain a) s (b .at) ≡ eqb (byte s (b .at + b .head)) 0
   unfolding hasForm
-  plain-is a l e = rw (version-is, sized a l e) (go (eqb (byte s (b .at + b .head)) 0))
+  plain-is a l e = rw (version-is, of-size a l e) (go (eqb (byte s (b .at + b .head)) 0))
     where
       go : (t : Bool) → when t true false ≡ t
       go true = refl
@@ -62,7 +62,7 @@ module _ (s : List ℕ) (b : Spot) (st : Stands s b) where
 
   pub plain-not : (a : ℕ) → 8 ≤ a → (b .size - b .head ≡ a - 8 → ⊥) → hasForm (plain a) s (b .at) ≡ false
   unfolding hasForm
-  plain-not a l n = rw (unsized a l n) (go (eqb (version s (b .at)) 0))
+  plain-not a l n = rw (not-of-size a l n) (go (eqb (version s (b .at)) 0))
     where
       go : (t : Bool) → when t false false ≡ false
       go true = refl

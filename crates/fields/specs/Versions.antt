@@ -4,7 +4,7 @@ use mathlib.Core.Path.{_≡_}
 use mathlib.Core.List.{List}
 use mathlib.Core.Bool.{true, false}
 use Rattle.rules.specs.Fields.{version, either, hasForm}
-use Rattle.boxes.specs.declared.Spot.{Spot}
+use Rattle.rules.specs.declared.Spot.{Spot}
 use Rattle.fields.specs.declared.Version.{Version}
 use Rattle.fields.specs.declared.Version.the-variants.{Zero, One, Wrong}
 

@@ -7,7 +7,7 @@ ghost use Rattle.rules.specs.Boxes.{headOf};
 ghost use Rattle.rules.specs.Fields.{flagsOf, field, plain, atLeast, hasForm};
 ghost use Rattle.boxes.specs.Stands.{Stands};
 ghost use Rattle.fields.specs.Versions.{saysVersion};
-use boxes::Spot;
+use rules::Spot;
 
 // Which version a body of one of two sizes has, or that it has neither.
 pub enum Version {

@@ -17,7 +17,7 @@ fn in_order(v: Verdict) -> [u64; 5]
 pub extern "C" fn flangemint_index(bytes: &[u8], table: &mut [u64], verdict: &mut [u64; 5])
     ensures { λ _. ⌜ Gives (indexOutcome (now (bytes .entry)) (now (table .entry))) (now (verdict .exit)) (now (table .exit)) ⌝ }
 {
-    *verdict = in_order(framing::index(bytes, table));
+    *verdict = in_order(framing::index_job(bytes, table));
 }
 
 // The track job.
@@ -25,7 +25,7 @@ pub extern "C" fn flangemint_index(bytes: &[u8], table: &mut [u64], verdict: &mu
 pub extern "C" fn flangemint_track(bytes: &[u8], table: &mut [u64], verdict: &mut [u64; 5])
     ensures { λ _. ⌜ Gives (trackOutcome (now (bytes .entry)) (now (table .entry))) (now (verdict .exit)) (now (table .exit)) ⌝ }
 {
-    *verdict = in_order(track::track(bytes, table));
+    *verdict = in_order(track::track_job(bytes, table));
 }
 
 // The set job.
@@ -33,5 +33,5 @@ pub extern "C" fn flangemint_track(bytes: &[u8], table: &mut [u64], verdict: &mu
 pub extern "C" fn flangemint_set(bytes: &[u8], table: &mut [u64], verdict: &mut [u64; 5])
     ensures { λ _. ⌜ Gives (setOutcome (now (bytes .entry)) (now (table .entry))) (now (verdict .exit)) (now (table .exit)) ⌝ }
 {
-    *verdict = in_order(set::check(bytes, table));
+    *verdict = in_order(set::set_job(bytes, table));
 }

@@ -11,56 +11,36 @@ use borrow.Author.Tests.{eq-eqb, ne-eqb}
 use Rattle.numbers.specs.Numbers.{when}
 use Rattle.rules.specs.Kinds.{trun}
 use Rattle.rules.specs.Boxes.{Box, look, boxes, kids, placesOf, headOf, sizeOf}
-use Rattle.rules.specs.Counts.{wanted, again, seenFrom, seen, firstOf, firstIn, child, someOf, counted, counts}
+use Rattle.rules.specs.Counts.{wanted, seenFrom, seen, firstOf, firstIn, child, someOf, counted, counts}
 use Rattle.rules.specs.Fragment.{trafIn, firstRun, runsIn, rule14}
 use Rattle.rules.specs.declared.Entry.{Entry}
 use Rattle.rules.specs.declared.Entry.the-variants.{One, OneOrMore}
 use Rattle.rules.specs.declared.Look.{Look}
-use Rattle.rules.specs.declared.Look.the-variants.{Nothing, Short, Small, Beyond, Header}
+use Rattle.rules.specs.declared.Look.the-variants.{Nothing, Short, Small, Beyond, Good}
 use Rattle.rules.specs.declared.Rule.the-variants.{Holds}
 use Rattle.rules.specs.declared.Seen.{Seen}
-use Rattle.rules.specs.declared.Seen.the-variants.{Never, Once, Twice}
+use Rattle.rules.specs.declared.Seen.the-variants.{Never, Once}
+use Rattle.rules.proofs.FirstSeen.{first-stays, first-at}
 use Rattle.rules.proofs.Forest.{look-found, boxes-by, places-miss, seen-box, seen-end}
 use Rattle.rules.proofs.Then.{broken, then-first, then-second}
-use Rattle.boxes.specs.Stands.{Stands}
-use Rattle.boxes.specs.declared.Spot.{Spot}
+use Rattle.boxes.specs.Stands.{Stands, StandsAt}
+use Rattle.rules.specs.declared.Spot.{Spot}
 use Rattle.boxes.proofs.Walks.{found, told-header}
 use Rattle.boxes.proofs.Stands.{stands}
 use Rattle.counts.specs.Sights.{Sighted}
 use Rattle.counts.specs.declared.Sight.{Sight}
-use Rattle.fragment.specs.Layout.{StandsAt}
-use Rattle.fragment.specs.Runs.{runsAt}
-
--- something was seen, and a was first
-data Since (a : ℕ) : Seen → Type 0 where
-  once : Since a (Once a)
-  twice : {b : ℕ} → Since a (Twice a b)
-
-since-again : {a : ℕ} {v : Seen} (t : Bool) (at : ℕ) → Since a v → Since a (when t (again at v) v)
-since-again true at once = twice
-since-again true at twice = twice
-since-again false at i = i
-
-since-first : {a : ℕ} {v : Seen} (p : ℕ) → Since a v → firstOf p v ≡ a
-since-first p once = refl
-since-first p twice = refl
-
--- what was seen first stays first
-first-stays : {a : ℕ} {v : Seen} (e : Entry) (xs : List Box) → Since a v → Since a (seenFrom v e xs)
-unfolding seenFrom
-first-stays e [] i = i
-first-stays e (x ∷ xs) i = first-stays e xs (since-again (wanted e (x .kind)) (x .at) i)
+use Rattle.runs.specs.Runs.{runsAt}
 
 -- what is seen from a place on, by what stands there: no box, one that counts, one that does not
 module _ (s : List ℕ) (at : ℕ) (e : Entry) where
   pub first-none : (p : ℕ) → boxes s at ≡ [] → firstOf p (seen e (boxes s at)) ≡ p
   first-none p o = ap (firstOf p) (seen-end s at Never e o)
 
-  module _ (h z k : ℕ) (l : look s at ≡ Header h z k) where
+  module _ (h z k : ℕ) (l : look s at ≡ Good h z k) where
     pub first-here : (p : ℕ) → wanted e k ≡ true → firstOf p (seen e (boxes s at)) ≡ at
     first-here p y =
         ap (firstOf p) (seen-box s at Never e h z k l ∙ ap (λ (t : Bool). seenFrom (when t (Once at) Never) e (boxes s (at + z))) y)
-        ∙ since-first p (first-stays e (boxes s (at + z)) once)
+        ∙ first-at (λ a. a ≡ at) p (seenFrom (Once at) e (boxes s (at + z))) (first-stays (λ a. a ≡ at) e (Once at) (boxes s (at + z)) refl)
 
     pub first-later : wanted e k ≡ false → seen e (boxes s at) ≡ seen e (boxes s (at + z))
     first-later n = seen-box s at Never e h z k l ∙ ap (λ (t : Bool). seenFrom (when t (Once at) Never) e (boxes s (at + z))) n
@@ -83,7 +63,7 @@ module _ (s : List ℕ) (w n c p : ℕ) where
   skips-by at Short e more = skips-none at (boxes-by s at Short e)
   skips-by at Small e more = skips-none at (boxes-by s at Small e)
   skips-by at Beyond e more = skips-none at (boxes-by s at Beyond e)
-  skips-by at (Header h z k) e more =
+  skips-by at (Good h z k) e more =
       let f = look-found s at h z k e in
       let by : (t : Bool) → eqb k w ≡ t → Skips at
       = elim [
@@ -134,7 +114,7 @@ module _ (m : List ℕ) (x : Spot) (st : Stands m x) (w at : ℕ) where
   pub child-none : FromHere → boxes front at ≡ [] → StandsAt m (child m (x .at) w) x
   child-none i o = record { stands = st; place = child-is i (x .at) (first-none front at (One w) (x .at) o) }
 
-  module _ {h z k : ℕ} {l : Look} (e : l ≡ look front at) (t : l ≡ Header h z k) where
+  module _ {h z k : ℕ} {l : Look} (e : l ≡ look front at) (t : l ≡ Good h z k) where
     pub child-here : FromHere → k ≡ w → StandsAt m (child m (x .at) w) (record { at = at; head = h; size = z })
     unfolding wanted
     child-here i q =

@@ -1,93 +1,47 @@
 -- Laws of the stages: where a rule breaks, the first that does, and what is left where those before hold.
-use mathlib.Core.Path.{_≡_, refl, sym, ap, subst, _∙_}
-use mathlib.Core.List.{List, [], _∷_}
-use mathlib.Core.Bool.{Bool, true, not, _&&_}
+use mathlib.Core.Path.{_≡_, sym, ap, _∙_}
+use mathlib.Core.List.{List, []}
+use mathlib.Core.Bool.{Bool, true, _&&_}
 use Prim.Native.Nat.{ℕ, _+_, _*_, _≤_}
 use native.Mathlib.Omega.{arith}
 use lib.ListN.{length}
 use lib.Dec.{leb, eqb}
 use borrow.Author.Tests.{leb-true, ne-eqb}
-use Rattle.numbers.specs.Numbers.{has, when}
-use Rattle.rules.specs.Limits.{sampleLimit, tickLimit}
+use Rattle.numbers.specs.Numbers.{when}
+use Rattle.rules.specs.Limits.{sampleLimit}
 use Rattle.rules.specs.Rules.{_then_, must, placedUpTo}
-use Rattle.rules.specs.Counts.{oneOf, atMostOneOf, someOf, counted, counts, seen}
-use Rattle.rules.specs.Boxes.{kids}
-use Rattle.rules.specs.Fragment.{inMoof, inTraf, trafIn, runsIn, rule14, rule15, rule15runs, rule16runs, rule16, flagged, rule17, samplesOf, rule18, shape, durationsOf, bytesIn, firstFlags, durationIn, endOf, syncIn, follows, rule19, rule20, rule21, rule22runs, rule22, timing}
+use Rattle.rules.specs.Counts.{counts}
+use Rattle.rules.specs.Fragment.{inMoof, inTraf, trafIn, runsIn, rule14, rule15, rule15runs, rule16runs, rule16, flagged, rule17, samplesOf, few, rule18, shape}
+use Rattle.rules.specs.Fragment.{durationsOf, bytesIn, firstFlags, durationIn, endOf, isSync, syncIn, follows, lasts}
+use Rattle.rules.specs.Fragment.{rule19, rule20, rule21, rule22runs, rule22, timing}
 use Rattle.rules.specs.declared.Entry.{Entry}
-use Rattle.rules.specs.declared.Entry.the-variants.{Nothing, One, AtMostOne, OneOrMore, OneInAll}
-use Rattle.rules.specs.declared.Seen.{Seen}
-use Rattle.rules.specs.declared.Seen.the-variants.{Never, Once, Twice}
 use Rattle.rules.specs.declared.Rule.{Rule}
 use Rattle.rules.specs.declared.Rule.the-variants.{Holds, Breaks}
+use Rattle.rules.specs.declared.Defaults.{Defaults}
 use Rattle.rules.specs.declared.Header.{Header}
 use Rattle.rules.specs.declared.Previous.{Previous}
+use Rattle.rules.specs.declared.Spot.{Spot}
 use Rattle.rules.proofs.Laws.{and-first, and-second}
 use Rattle.rules.proofs.Then.{then-holds, then-breaks, then-last, then-assoc, then-first, then-second, must-holds}
-use Rattle.fragment.specs.Bodies.{Found, Says}
-use Rattle.fragment.specs.Runs.{Local, Due, Walked}
+use Rattle.rules.proofs.Untracked.{then-is, must-is, breaks-at-0, counts-untracked, before-sums-untracked, of-sums-untracked}
+use Rattle.boxes.specs.Stands.{Stands}
+use Rattle.fragment.specs.Bodies.{MoofIn, BodyIn}
+use Rattle.runs.specs.Runs.{Due, SpansAll, PassedRuns}
 use Rattle.fragment.specs.Answers.{says, saysFragment}
 use Rattle.fragment.specs.declared.Fragment.{Fragment}
 use Rattle.fragment.specs.declared.Fragment.the-variants.{Good, Refused}
 use Rattle.fragment.specs.declared.bodies.Body.{Body}
-use Rattle.fragment.specs.declared.bodies.Moof.{Moof}
-use Rattle.fragment.specs.declared.runs.Totals.{Totals}
-use Rattle.fragment.proofs.Walk.{local-then, local-must}
+use Rattle.fragment.specs.declared.bodies.InMoof.{InMoof}
+use Rattle.runs.specs.declared.Span.{Span}
+use Rattle.runs.specs.declared.Totals.{Totals}
 
--- a rule that names no track
-abbrev Untracked : Rule → Type 0
-Untracked Holds = Unit {0}
-Untracked (Breaks n t p) = t ≡ 0
-
-then-untracked : (a b : Rule) → Untracked a → Untracked b → Untracked (a then b)
-unfolding _then_
-then-untracked Holds b h k = k
-then-untracked (Breaks n t p) b h k = h
-
-one-untracked : (n c : ℕ) (v : Seen) → Untracked (oneOf n c v)
-unfolding oneOf
-one-untracked n c Never = refl
-one-untracked n c (Once a) = tt
-one-untracked n c (Twice a b) = refl
-
-most-untracked : (n : ℕ) (v : Seen) → Untracked (atMostOneOf n v)
-unfolding atMostOneOf
-most-untracked n Never = tt
-most-untracked n (Once a) = tt
-most-untracked n (Twice a b) = refl
-
-some-untracked : (n c : ℕ) (v : Seen) → Untracked (someOf n c v)
-unfolding someOf
-some-untracked n c Never = refl
-some-untracked n c (Once a) = tt
-some-untracked n c (Twice a b) = tt
-
-counted-untracked : (n c : ℕ) (e : Entry) (v : Seen) → Untracked (counted n c e v)
-unfolding counted
-counted-untracked n c Nothing v = tt
-counted-untracked n c (One w) v = one-untracked n c v
-counted-untracked n c (AtMostOne w) v = most-untracked n v
-counted-untracked n c (OneOrMore w) v = some-untracked n c v
-counted-untracked n c (OneInAll u x w) v = one-untracked n c v
-
--- counts name no track
-counts-untracked : (n : ℕ) (m : List ℕ) (at : ℕ) (es : List Entry) → Untracked (counts n m at es)
-unfolding counts
-counts-untracked n m at [] = tt
-counts-untracked n m at (e ∷ es) = then-untracked _ _ (counted-untracked n at e (seen e (kids m at))) (counts-untracked n m at es)
-
--- so counts that break, break without one
+-- counts that break
 pub counts-break :
     (n : ℕ) (m : List ℕ) (at : ℕ) (es : List Entry) (r : Rule) {i t p : ℕ} → r ≡ counts n m at es → placedUpTo (length m) r → r ≡ Breaks i t p →
     (counts n m at es ≡ Breaks i 0 p) × (p ≤ length m)
-counts-break n m at es r {i} {t} {p} e low b =
-    let z : t ≡ 0 = subst Untracked (sym e ∙ b) (counts-untracked n m at es) in
-    (sym e ∙ b ∙ ap (λ (x : ℕ). Breaks i x p) z, subst (placedUpTo (length m)) b low)
-
--- a local rule that breaks
-pub local-breaks : (n : ℕ) (r : Rule) {i t p : ℕ} → Local n r → r ≡ Breaks i t p → (r ≡ Breaks i 0 p) × (p ≤ n)
-local-breaks n r {i} {t} {p} h e =
-    let l = subst (Local n) e h in
-    (e ∙ ap (λ (x : ℕ). Breaks i x p) (l .0), l .1)
+counts-break n m at es r e low b =
+    let u = breaks-at-0 (length m) {r = r} (rw e (counts-untracked n m at es)) low b in
+    (sym e ∙ u .0, u .1)
 
 module _ (m : List ℕ) (h : Header) (head payload : ℕ) (prev : Previous) {i p : ℕ} where
   pub broken-moof : counts 14 m 0 inMoof ≡ Breaks i 0 p → p ≤ length m → saysFragment (Refused i p) m h head payload prev
@@ -107,114 +61,141 @@ pub right-14 : (m : List ℕ) → counts 14 m 0 inMoof ≡ Holds → counts 14 m
 unfolding rule14
 right-14 m a b = then-holds _ a ∙ b
 
--- rules may be grouped
-regroup : (a b c d e g : Rule) → (((a then b) then (c then d)) then (e then g)) ≡ ((a then (b then (c then (d then e)))) then g)
-regroup a b c d e g = simp then-assoc
+-- a test at a box that stands in the `moof`, and one before other rules
+module _ {m : List ℕ} {b : Spot} (st : Stands m b) (t : Bool) (k : ℕ) where
+  last : placedUpTo (length m) (must t k (b .at))
+  last = must-is (placedUpTo (length m)) t k (b .at) tt (omega (arith, st .fits))
 
--- rules 16 to 22 over what was read, where 14 and 15 hold
-module _ (m : List ℕ) (h : Header) (head payload : ℕ) (prev : Previous) (x : Moof) (k : Body) (t : Totals) (want : Bool)
-    (found : Found m x) (told : Says m (h .defaults) k) (right : rule14 m ≡ Holds) (sized : rule15 m ≡ rule15runs m (runsIn m))
-    (w : Walked m want (k .own) (length m + head) (runsIn m) [] t) (v : Rule)
-    (judged : v ≡ (must (flagged (k .flags)) 16 (x .tfhd .at) then t .clash then must (eqb (k .id) (h .id)) 17 (x .tfhd .at)
-    then must (leb 1 (t .samples) && leb (t .samples) sampleLimit) 18 (x .traf .at) then must (follows prev (k .start)) 19 (x .tfdt .at))) where
-  clash-is : rule16runs m (runsIn m) ≡ t .clash
+  next : (q : Rule) → placedUpTo (length m) q → placedUpTo (length m) (must t k (b .at) then q)
+  next q l = then-is (placedUpTo (length m)) _ q last l
+
+-- rules 16 to 19 over what was read
+module _ (m : List ℕ) (d : Defaults) (x : InMoof) (k : Body) (t : Totals)
+    (found : MoofIn m x) (told : BodyIn m d k) (passed : PassedRuns m (runsIn m) [] t) where
+  clash-is : t .clash ≡ rule16runs m (runsIn m)
   unfolding rule16runs
-  clash-is = w .clash ∙ then-last (t .clash)
+  clash-is = sym (passed .clash ∙ then-last (t .clash))
 
-  samples-is : samplesOf m (runsIn m) ≡ t .samples
+  samples-is : t .samples ≡ samplesOf m (runsIn m)
   unfolding samplesOf
-  samples-is = omega (arith, w .samples)
+  samples-is = omega (arith, passed .samples)
 
-  right-15 : rule15 m ≡ Holds
-  unfolding rule15runs
-  right-15 = sized ∙ w .sized
+  module _ (id : ℕ) (prev : Previous) where
+    pub before-sums :
+        (must (flagged (k .flags)) 16 (x .tfhd .at) then t .clash then must (eqb (k .id) id) 17 (x .tfhd .at)
+        then must (few (t .samples)) 18 (x .traf .at) then must (follows prev (k .start)) 19 (x .tfdt .at))
+        ≡ (rule16 m then rule17 m id then rule18 m then rule19 m prev)
+    unfolding rule16 rule17 rule18 rule19
+    before-sums =
+        rw (told .flags, told .id, told .start, clash-is, samples-is, found .tfhd .place, found .traf .place, found .tfdt .place) (sym (then-assoc _ _ _))
 
-  judged-is :
+    pub before-sums-placed :
+        placedUpTo (length m)
+        (must (flagged (k .flags)) 16 (x .tfhd .at) then t .clash then must (eqb (k .id) id) 17 (x .tfhd .at)
+        then must (few (t .samples)) 18 (x .traf .at) then must (follows prev (k .start)) 19 (x .tfdt .at))
+    before-sums-placed =
+        next (found .tfhd .stands) _ 16 _
+        (then-is (placedUpTo (length m)) _ _ (passed .place)
+        (next (found .tfhd .stands) _ 17 _ (next (found .traf .stands) _ 18 _ (last (found .tfdt .stands) _ 19))))
+
+    -- where they hold, the sums were asked for
+    module _ (want : Bool) (worth : want ≡ (flagged (k .flags) && eqb (k .id) id && follows prev (k .start)))
+        (good : (rule16 m then rule17 m id then rule18 m then rule19 m prev) ≡ Holds) where
+      pub few-samples : few (t .samples) ≡ true
+      unfolding rule18
+      few-samples = rw samples-is (must-holds _ 18 _ (then-first _ _ (then-second _ _ (then-second _ _ good))))
+
+      pub sums-due : Due want (t .clash) (t .samples)
+      unfolding rule16 rule17 rule19
+      sums-due =
+          let first = then-first _ _ good in (
+            worth
+                ∙ rw (
+                  told .flags,
+                  told .id,
+                  told .start,
+                  must-holds _ 16 _ (then-first _ _ first),
+                  must-holds _ 17 _ (then-first _ _ (then-second _ _ good)),
+                  must-holds _ 19 _ (then-second _ _ (then-second _ _ (then-second _ _ good))),
+                ),
+            clash-is ∙ then-second _ _ first,
+            leb-true (t .samples) sampleLimit (and-second (leb 1 (t .samples)) _ few-samples),
+          )
+
+-- rules 20 to 22 over what was read and the samples span
+module _ (m : List ℕ) (d : Defaults) (x : InMoof) (k : Body) (n : ℕ) (a : Span) (head : ℕ)
+    (found : MoofIn m x) (told : BodyIn m d k) (right : few n ≡ true)
+    (s : SpansAll m (k .own) (length m + head) (runsIn m) [] n a) where
+  some : 1 ≤ n
+  some = leb-true 1 n (and-first _ (leb n sampleLimit) right)
+
+  pub ticks-low : a .ticks ≤ 4294967295 * sampleLimit
+  ticks-low = omega (arith, s .small .0, leb-true n sampleLimit (and-second (leb 1 n) _ right))
+
+  ticks-are : durationIn m d ≡ a .ticks
+  unfolding durationIn durationsOf
+  ticks-are = rw (← told .own) (omega (arith, s .ticks))
+
+  bytes-are : bytesIn m (k .own) (runsIn m) ≡ a .bytes
+  unfolding bytesIn
+  bytes-are = omega (arith, s .bytes)
+
+  sync-is : isSync (firstFlags m (k .own) (runsIn m)) ≡ a .sync
+  sync-is = s .sync ∙ ap (λ (b : Bool). when b (isSync (firstFlags m (k .own) [])) (a .sync)) (ne-eqb n 0 (λ e. omega (arith, e, some)))
+
+  tiled-is : rule22runs m (k .own) true (length m + head) (runsIn m) ≡ a .tiled
+  unfolding rule22runs
+  tiled-is = s .tiled ∙ then-last (a .tiled)
+
+  -- 20, and the end
+  pub lasts-is : rule20 m d ≡ must (lasts (k .start) (a .ticks)) 20 (x .run .at)
+  unfolding rule20
+  lasts-is = rw (ticks-are, ← told .start, found .run .place)
+
+  pub end-is : {e : ℕ} → e ≡ k .start + a .ticks → e ≡ endOf m d
+  unfolding endOf
+  end-is e = e ∙ rw (← told .start, ticks-are)
+
+  -- 21 and 22
+  module _ (payload : ℕ) (rule : Rule) (is : rule ≡ (must (a .sync) 21 (x .run .at) then a .tiled then must (eqb (a .bytes) payload) 22 (length m))) where
+    pub rest-is : rule ≡ (rule21 m d then rule22 m d head payload)
+    unfolding rule21 rule22 syncIn
+    rest-is = is ∙ rw (← told .own, bytes-are, sync-is, tiled-is, found .run .place)
+
+    pub rest-breaks : {i b p : ℕ} → rule ≡ Breaks i b p → ((rule21 m d then rule22 m d head payload) ≡ Breaks i 0 p) × (p ≤ length m)
+    rest-breaks e =
+        let low : placedUpTo (length m) rule =
+        rw is (next (found .run .stands) _ 21 _ (then-is (placedUpTo (length m)) _ _ (s .place) (must-is (placedUpTo (length m)) _ 22 _ tt (omega arith)))) in
+        let r = breaks-at-0 (length m) {r = rule} (rw rest-is (of-sums-untracked m d head payload)) low e in
+        (sym rest-is ∙ r .0, r .1)
+
+-- rules may be grouped
+regroup : (a b c d e : Rule) → ((a then b then c) then (d then e)) ≡ ((a then b then c then d) then e)
+regroup a b c d e = simp then-assoc
+
+pub right-15 : (m : List ℕ) (t : Totals) → rule15 m ≡ rule15runs m (runsIn m) → PassedRuns m (runsIn m) [] t → rule15 m ≡ Holds
+unfolding rule15runs
+right-15 m t sized passed = sized ∙ passed .sized
+
+-- where 14 and 15 hold, the rest: 16 to 19, then 20 to 22
+module _ (m : List ℕ) (h : Header) (head payload : ℕ) (prev : Previous) (right : rule14 m ≡ Holds) (sized : rule15 m ≡ Holds) where
+  rest-of :
       (shape m (h .id) then timing m (h .defaults) head payload prev)
-      ≡ (v then (rule20 m (h .defaults) then rule21 m (h .defaults) then rule22 m (h .defaults) head payload))
-  unfolding shape timing rule16 rule17 rule18 rule19
-  judged-is =
-      ap (λ (r : Rule). r then timing m (h .defaults) head payload prev) (then-holds _ right ∙ then-holds _ right-15)
-      ∙ regroup _ _ _ _ _ _
-      ∙ rw (judged, told .flags, told .id, told .start, clash-is, samples-is, found .tfhd .place, found .traf .place, found .tfdt .place)
+      ≡ ((rule16 m then rule17 m (h .id) then rule18 m then rule19 m prev)
+      then (rule20 m (h .defaults) then rule21 m (h .defaults) then rule22 m (h .defaults) head payload))
+  unfolding shape timing
+  rest-of = ap (λ (r : Rule). r then timing m (h .defaults) head payload prev) (then-holds _ right ∙ then-holds _ sized) ∙ regroup _ _ _ _ _
 
-  -- where one of 16 to 19 breaks
-  pub broken-19 : {i b p : ℕ} → v ≡ Breaks i b p → saysFragment (Refused i p) m h head payload prev
-  broken-19 {i} {b} {p} e =
-      let n = length m in
-      let at : (q : ℕ) (z : ℕ) → q + z ≤ n → q ≤ n = λ q z l. omega (arith, l) in
-      let l : Local n v =
-      rw judged
-      (local-then n _ _ (local-must n _ 16 _ (at _ _ (found .tfhd .stands .fits)))
-      (local-then n _ _ (w .clashLocal)
-      (local-then n _ _ (local-must n _ 17 _ (at _ _ (found .tfhd .stands .fits)))
-      (local-then n _ _ (local-must n _ 18 _ (at _ _ (found .traf .stands .fits))) (local-must n _ 19 _ (at _ _ (found .tfdt .stands .fits)))))))
-      in
-      let r = local-breaks n v l e in
-      (judged-is ∙ then-breaks _ (r .0), r .1)
+  pub broken-19 :
+      {v : Rule} {i b p : ℕ} → v ≡ (rule16 m then rule17 m (h .id) then rule18 m then rule19 m prev) → placedUpTo (length m) v → v ≡ Breaks i b p →
+      saysFragment (Refused i p) m h head payload prev
+  broken-19 {v} is low e =
+      let r = breaks-at-0 (length m) {r = v} (rw is (before-sums-untracked m (h .id) prev)) low e in
+      (rest-of ∙ then-breaks _ (sym is ∙ r .0), r .1)
 
-  -- where they hold
-  module _ (wanted : want ≡ (flagged (k .flags) && eqb (k .id) (h .id) && follows prev (k .start))) (good : v ≡ Holds) where
-    later : (t .clash then must (eqb (k .id) (h .id)) 17 (x .tfhd .at)
-        then must (leb 1 (t .samples) && leb (t .samples) sampleLimit) 18 (x .traf .at) then must (follows prev (k .start)) 19 (x .tfdt .at)) ≡ Holds
-    later = then-second _ _ (sym judged ∙ good)
-
-    few : (leb 1 (t .samples) && leb (t .samples) sampleLimit) ≡ true
-    few = must-holds _ 18 _ (then-first _ _ (then-second _ _ (then-second _ _ later)))
-
-    some : 1 ≤ t .samples
-    some = leb-true 1 (t .samples) (and-first _ (leb (t .samples) sampleLimit) few)
-
-    due : Due want (t .clash) (t .samples)
-    due = (
-      wanted
-          ∙ rw (
-            must-holds _ 16 _ (then-first _ _ (sym judged ∙ good)),
-            must-holds _ 17 _ (then-first _ _ (then-second _ _ later)),
-            must-holds _ 19 _ (then-second _ _ (then-second _ _ (then-second _ _ later))),
-          ),
-      then-first _ _ later,
-      leb-true (t .samples) sampleLimit (and-second (leb 1 (t .samples)) _ few),
-    )
-
-    pub ticks-low : t .span .ticks ≤ 4294967295 * sampleLimit
-    ticks-low = omega (arith, w .low due .0, due .2)
-
-    ticks-are : durationIn m (h .defaults) ≡ t .span .ticks
-    unfolding durationIn durationsOf
-    ticks-are = rw (← told .own) (omega (arith, w .sums due .ticks))
-
-    bytes-are : bytesIn m (k .own) (runsIn m) ≡ t .span .bytes
-    unfolding bytesIn
-    bytes-are = omega (arith, w .sums due .bytes)
-
-    sync-is : not (has (firstFlags m (k .own) (runsIn m)) 0x10000) ≡ t .span .sync
-    sync-is =
-        w .sums due .sync
-        ∙ ap (λ (b : Bool). when b (not (has (firstFlags m (k .own) []) 0x10000)) (t .span .sync)) (ne-eqb (t .samples) 0 (λ e. omega (arith, e, some)))
-
-    tiled-is : rule22runs m (k .own) true (length m + head) (runsIn m) ≡ t .span .tiled
-    unfolding rule22runs
-    tiled-is = w .sums due .tiled ∙ then-last (t .span .tiled)
-
-    timed-is :
-        (rule20 m (h .defaults) then rule21 m (h .defaults) then rule22 m (h .defaults) head payload)
-        ≡ (must (leb 1 (t .span .ticks) && leb (k .start + t .span .ticks) tickLimit) 20 (x .run .at)
-        then must (t .span .sync) 21 (x .run .at)
-        then t .span .tiled
-        then must (eqb (t .span .bytes) payload) 22 (length m))
-    unfolding rule20 rule21 rule22 syncIn endOf
-    timed-is = rw (ticks-are, ← told .own, bytes-are, sync-is, tiled-is, ← told .start, found .run .place)
-
-    pub settled :
-        (r : Fragment) →
-        says r
-        (must (leb 1 (t .span .ticks) && leb (k .start + t .span .ticks) tickLimit) 20 (x .run .at)
-        then must (t .span .sync) 21 (x .run .at)
-        then t .span .tiled
-        then must (eqb (t .span .bytes) payload) 22 (length m)) (length m) (k .start) (k .start + t .span .ticks)
-        → saysFragment r m h head payload prev
-    unfolding endOf
-    settled (Good f) s =
-        (judged-is ∙ then-holds _ good ∙ timed-is ∙ s .0, s .1 ∙ told .start, s .2 ∙ rw (← told .start, ticks-are), s .3)
-    settled (Refused i p) s = (judged-is ∙ then-holds _ good ∙ timed-is ∙ s .0, s .1)
+  pub settled :
+      (rule16 m then rule17 m (h .id) then rule18 m then rule19 m prev) ≡ Holds → (r : Fragment) →
+      says r (rule20 m (h .defaults) then rule21 m (h .defaults) then rule22 m (h .defaults) head payload) m (h .defaults) →
+      saysFragment r m h head payload prev
+  settled good (Good f) s = (rest-of ∙ then-holds _ good ∙ s .0, s .1, s .2, s .3)
+  settled good (Refused i p) s = (rest-of ∙ then-holds _ good ∙ s .0, s .1)

@@ -1,5 +1,3 @@
 pub mod Answers
 pub mod Bodies
 pub mod Layout
-pub mod Runs
-pub mod Samples

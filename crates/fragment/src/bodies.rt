@@ -1,12 +1,11 @@
-// Rule 15: the bodies of a fragment's boxes, each by a reader of its own.
+// Rule 15: the bodies of a fragment's boxes before its runs, each by a reader of its own.
 ghost use Rattle.rules.specs.Fragment.{mfhdIn, tfhdIn, tfdtIn};
-ghost use Rattle.boxes.specs.Stands.{Stands};
-ghost use Rattle.fragment.specs.Layout.{StandsAt};
-ghost use Rattle.fragment.specs.Bodies.{saysMfhd, saysTfhd, saysTfdt, saysTrun};
+ghost use Rattle.boxes.specs.Stands.{StandsAt};
+ghost use Rattle.fragment.specs.Bodies.{saysMfhd, saysTfhd, saysTfdt};
 use crate::layout;
-use boxes::Spot;
 use fields::Version;
 use rules::Defaults;
+use rules::Spot;
 
 // What an `mfhd` says: nothing that a rule asks for, or that it has another form.
 pub enum Mfhd {
@@ -22,18 +21,12 @@ pub enum Tfhd {
 
 // What a `tfdt` says: the fragment's start, or that it has another form.
 pub enum Tfdt {
-    At(u64),
-    Wrong,
-}
-
-// What a `trun` says: its flags and its samples, or that it has another form.
-pub enum Trun {
-    Run { flags: u32, count: u32 },
+    Of(u64),
     Wrong,
 }
 
 // Where the boxes of a fragment stand in its `moof`, of the runs the first.
-pub struct Moof {
+pub struct InMoof {
     pub mfhd: Spot,
     pub traf: Spot,
     pub tfhd: Spot,
@@ -87,28 +80,8 @@ pub fn read_tfdt(m: &[u8], b: Spot) -> Tfdt
 {
     let version = fields::versioned(m, b, 16, 20);
     match version {
-        Version::Zero => Tfdt::At(fields::word(m, b, 4) as u64),
-        Version::One => Tfdt::At(fields::double(m, b, 4)),
+        Version::Zero => Tfdt::Of(fields::word(m, b, 4) as u64),
+        Version::One => Tfdt::Of(fields::double(m, b, 4)),
         Version::Wrong => Tfdt::Wrong,
-    }
-}
-
-// A `trun`: version 0 or 1, sized by its flags and its samples.
-pub fn read_trun(m: &[u8], r: Spot) -> Trun
-    requires { ⌜ Stands (now m) r ⌝ }
-    ensures { λ a. ⌜ saysTrun a (now (m .entry)) r ⌝ }
-{
-    if r.size - r.head < 8 {
-        return Trun::Wrong;
-    }
-    let flags = fields::flags(m, r);
-    let count = fields::word(m, r, 4);
-    let own = layout::stride(flags) * count as usize;
-    let size = 8 + layout::run_head(flags) + own;
-    let version = fields::versioned(m, r, size, size);
-    match version {
-        Version::Zero => Trun::Run { flags, count },
-        Version::One => Trun::Run { flags, count },
-        Version::Wrong => Trun::Wrong,
     }
 }

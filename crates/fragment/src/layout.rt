@@ -1,22 +1,14 @@
-// Where the fields of a fragment's boxes stand, by the flags of each.
+// Where the fields of a `tfhd` stand, by its flags.
 ghost use mathlib.Core.Path.{_≡_};
-ghost use Prim.Native.Nat.{_+_, _<_, _≤_};
+ghost use Prim.Native.Nat.{_+_};
 ghost use Rattle.numbers.specs.Numbers.{when};
 ghost use Rattle.rules.specs.Fields.{flagsOf, field};
-ghost use Rattle.rules.specs.Fragment.{bytesFor, tfhdSize, runHead, stride, tfhdIn, defaultsIn};
-ghost use Rattle.boxes.specs.Stands.{Stands};
-ghost use Rattle.fragment.specs.Layout.{StandsAt, Reaches};
-use boxes::Spot;
+ghost use Rattle.rules.specs.Fragment.{tfhdSize, tfhdIn, defaultsIn};
+ghost use Rattle.boxes.specs.Stands.{Stands, StandsAt};
+ghost use Rattle.fragment.specs.Layout.{FieldInside};
 use rules::Defaults;
-
-// n bytes where a flag is set.
-pub fn bytes_for(n: usize, flags: u32, w: u32) -> usize
-    requires { ⌜ 0 < w ⌝ }
-    ensures { λ r. ⌜ r ≡ bytesFor n flags w ⌝ }
-    ensures { λ r. ⌜ r ≤ n ⌝ }
-{
-    if numbers::has(flags, w) { n } else { 0 }
-}
+use rules::Spot;
+use runs::layout::bytes_for;
 
 // The size of `tfhd` by its flags.
 pub fn tfhd_size(flags: u32) -> usize
@@ -26,26 +18,9 @@ pub fn tfhd_size(flags: u32) -> usize
     16 + bytes_for(8, flags, 0x1) + bytes_for(4, flags, 0x2) + five
 }
 
-// The bytes of a run before its samples' fields.
-pub fn run_head(flags: u32) -> usize
-    ensures { λ r. ⌜ r ≡ runHead flags ⌝ }
-    ensures { λ r. ⌜ r ≤ 16 ⌝ }
-{
-    8 + bytes_for(4, flags, 0x1) + bytes_for(4, flags, 0x4)
-}
-
-// The bytes of a sample's fields in a run.
-pub fn stride(flags: u32) -> usize
-    ensures { λ r. ⌜ r ≡ stride flags ⌝ }
-    ensures { λ r. ⌜ r ≤ 16 ⌝ }
-{
-    let first = bytes_for(4, flags, 0x100) + bytes_for(4, flags, 0x200);
-    first + bytes_for(4, flags, 0x400) + bytes_for(4, flags, 0x800)
-}
-
 // The field k bytes behind a box's header where a flag is set, else the default.
 fn own(m: &[u8], b: Spot, k: usize, set: bool, default: u32) -> u32
-    requires { ⌜ Stands (now m) b × Reaches set b k ⌝ }
+    requires { ⌜ Stands (now m) b × FieldInside set b k ⌝ }
     ensures { λ r. ⌜ r ≡ when set (field (now (m .entry)) (b .at) k) default ⌝ }
 {
     if set { fields::word(m, b, k) } else { default }

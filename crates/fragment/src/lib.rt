@@ -6,16 +6,11 @@ ghost use Rattle.rules.specs.Limits.{byteLimit};
 ghost use Rattle.rules.specs.Counts.{child, counts};
 ghost use Rattle.rules.specs.Fragment.{inMoof, mfhdIn, trafIn, runsIn, rule14, rule15, rule15runs, startOf};
 ghost use Rattle.rules.specs.declared.Rule.the-variants.{Holds};
-ghost use Rattle.boxes.specs.Stands.{Stands, Whole};
-ghost use Rattle.fragment.specs.Layout.{StandsAt};
-ghost use Rattle.fragment.specs.Bodies.{Found, Says};
+ghost use Rattle.boxes.specs.Stands.{Stands, Whole, StandsAt};
+ghost use Rattle.fragment.specs.Bodies.{MoofIn, BodyIn};
 ghost use Rattle.fragment.specs.Answers.{saysFragment};
 use bodies::Body;
-use bodies::Mfhd;
-use bodies::Moof;
-use bodies::Tfdt;
-use bodies::Tfhd;
-use boxes::Spot;
+use bodies::InMoof;
 use boxes::kinds::MFHD;
 use boxes::kinds::TFDT;
 use boxes::kinds::TFHD;
@@ -26,85 +21,72 @@ use rules::Header;
 use rules::Look;
 use rules::Previous;
 use rules::Rule;
+use rules::Spot;
 use runs::Runs;
 
 mod bodies;
 mod layout;
-mod runs;
-mod samples;
 mod values;
 
 // A good fragment's start and end.
-pub struct Timed {
+pub struct Interval {
     pub start: u64,
     pub end: u64,
 }
 
 // A fragment is good, or a rule breaks with its number and its place in the `moof`.
 pub enum Fragment {
-    Good(Timed),
+    Good(Interval),
     Refused { number: u64, place: u64 },
 }
 
 // The runs of a fragment whose other bodies are read, then rules 16 to 22.
 fn settle(
     m: &[u8],
-    x: Moof,
+    x: InMoof,
     k: Body,
     head: u64,
     payload: u64,
     h: Header,
     prev: Previous,
 ) -> Fragment
-    requires { ⌜ (length (now m) ≤ byteLimit) × (head ≤ 16) × Found (now m) x × Says (now m) (h .defaults) k ⌝ }
+    requires { ⌜ (length (now m) ≤ byteLimit) × (head ≤ 16) × MoofIn (now m) x × BodyIn (now m) (h .defaults) k ⌝ }
     requires { ⌜ (rule14 (now m) ≡ Holds) × (rule15 (now m) ≡ rule15runs (now m) (runsIn (now m))) ⌝ }
     ensures { λ r. ⌜ saysFragment r (now (m .entry)) h head payload prev ⌝ }
 {
-    let traf = x.traf;
-    let run = x.run;
-    let end = traf.at + traf.size;
-    let own = k.own;
-    let wanted = values::wanted(k, h.id, prev);
-    let all = runs::walk(m, &m[..end], run.at, wanted, own, m.len() as u64 + head);
+    let end = x.traf.at + x.traf.size;
+    let worth = values::worth_summing(k, h.id, prev);
+    let all = runs::walk(m, &m[..end], x.run.at, worth, k.own, m.len() as u64 + head);
     match all {
         Runs::Wrong(place) => Fragment::Refused { number: 15, place },
         Runs::Of(t) => {
-            let rule = values::judge(x, k, t, h.id, prev);
+            let rule = values::rules_before_sums(m, x, k, t, h, prev);
             match rule {
                 Rule::Breaks { number, place, .. } => Fragment::Refused { number, place },
-                Rule::Holds => values::time(
-                    m.len() as u64,
-                    run.at as u64,
-                    k.start,
-                    t.span,
-                    payload,
-                ),
+                Rule::Holds => values::rules_of_sums(m, x, k, t, head, payload, h),
             }
         }
     }
 }
 
 // The bodies before the runs of a fragment whose boxes stand there, then the rest.
-fn read(m: &[u8], x: Moof, head: u64, payload: u64, h: Header, prev: Previous) -> Fragment
-    requires { ⌜ (length (now m) ≤ byteLimit) × (head ≤ 16) × Found (now m) x × (rule14 (now m) ≡ Holds) ⌝ }
+fn read(m: &[u8], x: InMoof, head: u64, payload: u64, h: Header, prev: Previous) -> Fragment
+    requires { ⌜ (length (now m) ≤ byteLimit) × (head ≤ 16) × MoofIn (now m) x × (rule14 (now m) ≡ Holds) ⌝ }
     ensures { λ r. ⌜ saysFragment r (now (m .entry)) h head payload prev ⌝ }
 {
-    let first = x.mfhd;
-    let mfhd = bodies::read_mfhd(m, first);
-    let Mfhd::Plain = mfhd else {
-        let place = first.at as u64;
+    let mfhd = bodies::read_mfhd(m, x.mfhd);
+    let bodies::Mfhd::Plain = mfhd else {
+        let place = x.mfhd.at as u64;
         return Fragment::Refused { number: 15, place };
     };
-    let second = x.tfhd;
-    let tfhd = bodies::read_tfhd(m, second, h.defaults);
-    let Tfhd::Of { flags, id, own } = tfhd else {
-        let place = second.at as u64;
+    let tfhd = bodies::read_tfhd(m, x.tfhd, h.defaults);
+    let bodies::Tfhd::Of { flags, id, own } = tfhd else {
+        let place = x.tfhd.at as u64;
         return Fragment::Refused { number: 15, place };
     };
-    let third = x.tfdt;
-    let tfdt = bodies::read_tfdt(m, third);
-    let Tfdt::At(start) = tfdt else {
-        let place = third.at as u64;
+    let tfdt = bodies::read_tfdt(m, x.tfdt);
+    let bodies::Tfdt::Of(start) = tfdt else {
+        let place = x.tfdt.at as u64;
         return Fragment::Refused { number: 15, place };
     };
     let k = Body {
@@ -131,7 +113,7 @@ fn in_traf(
     ensures { λ r. ⌜ saysFragment r (now (m .entry)) h head payload prev ⌝ }
 {
     let some = Entry::OneOrMore(TRUN);
-    let seen = counts::counts(14, m, traf, Entry::One(TFHD), Entry::One(TFDT), some);
+    let seen = counts::count_boxes(14, m, traf, Entry::One(TFHD), Entry::One(TFDT), some);
     let rule = seen.rule;
     match rule {
         Rule::Breaks { number, place, .. } => Fragment::Refused { number, place },
@@ -139,7 +121,7 @@ fn in_traf(
             let tfhd = seen.a.first;
             let tfdt = seen.b.first;
             let run = seen.c.first;
-            let x = Moof {
+            let x = InMoof {
                 mfhd,
                 traf,
                 tfhd,
@@ -153,7 +135,14 @@ fn in_traf(
 
 // Rules 14 to 22 of the fragment whose `moof` has the bytes m, with the length of its header, the header length and the payload length
 // of its `mdat`, what the track's header tells, and the previous end.
-pub fn check(m: &[u8], moof: usize, head: u64, payload: u64, h: Header, prev: Previous) -> Fragment
+pub fn check_fragment(
+    m: &[u8],
+    moof: usize,
+    head: u64,
+    payload: u64,
+    h: Header,
+    prev: Previous,
+) -> Fragment
     requires { ⌜ Whole (now m) moof × (length (now m) ≤ byteLimit) × (head ≤ 16) ⌝ }
     ensures { λ r. ⌜ saysFragment r (now (m .entry)) h head payload prev ⌝ }
 {
@@ -163,20 +152,16 @@ pub fn check(m: &[u8], moof: usize, head: u64, payload: u64, h: Header, prev: Pr
         size: m.len(),
     };
     let none = Entry::Nothing;
-    let seen = counts::counts(14, m, whole, Entry::One(MFHD), Entry::One(TRAF), none);
+    let seen = counts::count_boxes(14, m, whole, Entry::One(MFHD), Entry::One(TRAF), none);
     let rule = seen.rule;
     match rule {
         Rule::Breaks { number, place, .. } => Fragment::Refused { number, place },
-        Rule::Holds => {
-            let mfhd = seen.a.first;
-            let traf = seen.b.first;
-            in_traf(m, mfhd, traf, head, payload, h, prev)
-        }
+        Rule::Holds => in_traf(m, seen.a.first, seen.b.first, head, payload, h, prev),
     }
 }
 
 // The first box of a type in the container that stands there, or the container itself where there is none.
-fn child(m: &[u8], x: Spot, w: u32) -> Spot
+fn first_child(m: &[u8], x: Spot, w: u32) -> Spot
     requires { ⌜ Stands (now m) x ⌝ }
     ensures { λ r. ⌜ StandsAt (now (m .entry)) (child (now (m .entry)) (x .at) w) r ⌝ }
 {
@@ -184,7 +169,7 @@ fn child(m: &[u8], x: Spot, w: u32) -> Spot
     let mut at = x.at + x.head;
     loop {
         let l = boxes::look(&m[..end], at);
-        let Look::Header { head, size, kind } = l else {
+        let Look::Good { head, size, kind } = l else {
             return x;
         };
         if kind == w {
@@ -204,7 +189,7 @@ pub fn start_in(m: &[u8], moof: usize) -> u64
         head: moof,
         size: m.len(),
     };
-    let tfdt = child(m, child(m, whole, TRAF), TFDT);
+    let tfdt = first_child(m, first_child(m, whole, TRAF), TFDT);
     let body = tfdt.at + tfdt.head;
     if numbers::byte(m, body) == 1 {
         numbers::be8(m, body + 4)

@@ -1,32 +1,32 @@
 // Rules 16 to 22, by what was read.
 ghost use mathlib.Core.Path.{_≡_};
-ghost use mathlib.Core.Bool.{not, _&&_};
+ghost use mathlib.Core.Bool.{true, _&&_};
+ghost use mathlib.Core.List.{[]};
 ghost use Prim.Native.Nat.{_+_, _*_, _≤_};
-ghost use lib.Dec.{leb, eqb};
-ghost use Rattle.numbers.specs.Numbers.{has};
-ghost use Rattle.rules.specs.Limits.{sampleLimit, tickLimit};
-ghost use Rattle.rules.specs.Rules.{_then_, must};
-ghost use Rattle.rules.specs.Fragment.{flagged, follows};
-ghost use Rattle.fragment.specs.Runs.{Local};
-ghost use Rattle.fragment.specs.Answers.{saysEnd, says};
+ghost use lib.ListN.{length};
+ghost use lib.Dec.{eqb};
+ghost use Rattle.rules.specs.Limits.{sampleLimit};
+ghost use Rattle.rules.specs.Rules.{_then_, placedUpTo};
+ghost use Rattle.rules.specs.Fragment.{runsIn, flagged, few, follows, rule16, rule17, rule18, rule19, rule20, rule21, rule22};
+ghost use Rattle.fragment.specs.Bodies.{MoofIn, BodyIn};
+ghost use Rattle.runs.specs.Runs.{PassedRuns, SpansAll};
+ghost use Rattle.fragment.specs.Answers.{saysLasting, says};
 use crate::Fragment;
-use crate::Timed;
+use crate::Interval;
 use crate::bodies::Body;
-use crate::bodies::Moof;
-use crate::runs::Span;
-use crate::runs::Totals;
+use crate::bodies::InMoof;
+use rules::Header;
 use rules::Previous;
 use rules::Rule;
-
-// Rule 18: the samples of a fragment.
-pub const SAMPLE_LIMIT: u64 = 65536;
+use runs::SAMPLE_LIMIT;
+use runs::Totals;
 
 // Rule 20: the last tick, 2^63 - 1.
 const TICK_LIMIT: u64 = 9223372036854775807;
 
 // The fragment's end, or that its duration is 0 or its end over 2^63 - 1.
-pub enum End {
-    At(u64),
+pub enum Lasting {
+    Until(u64),
     Wrong,
 }
 
@@ -45,7 +45,7 @@ pub fn flagged(flags: u32) -> bool
 
 // Rule 18: 1 to 65,536 samples.
 pub fn few(samples: u64) -> bool
-    ensures { λ r. ⌜ r ≡ (leb 1 samples && leb samples sampleLimit) ⌝ }
+    ensures { λ r. ⌜ r ≡ few samples ⌝ }
 {
     if samples < 1 {
         return false;
@@ -64,29 +64,21 @@ pub fn follows(prev: Previous, start: u64) -> bool
 }
 
 // Rule 20: the end, by a start and a duration.
-pub fn end_at(start: u64, ticks: u64) -> End
+pub fn end_at(start: u64, ticks: u64) -> Lasting
     requires { ⌜ ticks ≤ 4294967295 * sampleLimit ⌝ }
-    ensures { λ r. ⌜ saysEnd r start ticks ⌝ }
+    ensures { λ r. ⌜ saysLasting r start ticks ⌝ }
 {
     if ticks < 1 {
-        return End::Wrong;
+        return Lasting::Wrong;
     }
     if TICK_LIMIT - ticks < start {
-        return End::Wrong;
+        return Lasting::Wrong;
     }
-    End::At(start + ticks)
-}
-
-// Rule 21: not the non-sync bit.
-pub fn is_sync(flags: u32) -> bool
-    ensures { λ r. ⌜ r ≡ not (has flags 0x10000) ⌝ }
-{
-    let other = numbers::has(flags, 0x10000);
-    !other
+    Lasting::Until(start + ticks)
 }
 
 // Whether 16 of `tfhd`, 17 and 19 hold: else no sample need be summed.
-pub fn wanted(k: Body, id: u32, prev: Previous) -> bool
+pub fn worth_summing(k: Body, id: u32, prev: Previous) -> bool
     ensures { λ r. ⌜ r ≡ (flagged (k .flags) && eqb (k .id) id && follows prev (k .start)) ⌝ }
 {
     if !flagged(k.flags) {
@@ -99,41 +91,50 @@ pub fn wanted(k: Body, id: u32, prev: Previous) -> bool
 }
 
 // Rules 16 to 19, by what the bodies say and the runs come to.
-pub fn judge(x: Moof, k: Body, t: Totals, id: u32, prev: Previous) -> Rule
-    ensures { λ r. ⌜ r ≡ (must (flagged (k .flags)) 16 (x .tfhd .at)
-        then t .clash
-        then must (eqb (k .id) id) 17 (x .tfhd .at)
-        then must (leb 1 (t .samples) && leb (t .samples) sampleLimit) 18 (x .traf .at)
-        then must (follows prev (k .start)) 19 (x .tfdt .at)) ⌝ }
+pub fn rules_before_sums(m: &[u8], x: InMoof, k: Body, t: Totals, h: Header, prev: Previous) -> Rule
+    requires { ⌜ MoofIn (now m) x × BodyIn (now m) (h .defaults) k × PassedRuns (now m) (runsIn (now m)) [] t ⌝ }
+    ensures { λ r. ⌜ r ≡ (rule16 (now (m .entry))
+        then rule17 (now (m .entry)) (h .id)
+        then rule18 (now (m .entry))
+        then rule19 (now (m .entry)) prev) ⌝ }
+    ensures { λ r. ⌜ placedUpTo (length (now (m .entry))) r ⌝ }
 {
-    let tfhd = x.tfhd;
-    let tfdt = x.tfdt;
-    let traf = x.traf;
     let clash = t.clash;
-    let timed = rules::must(follows(prev, k.start), 19, tfdt.at as u64);
-    let filled = rules::first_broken(rules::must(few(t.samples), 18, traf.at as u64), timed);
-    let named = rules::first_broken(rules::must(k.id == id, 17, tfhd.at as u64), filled);
+    let timed = rules::must(follows(prev, k.start), 19, x.tfdt.at as u64);
+    let filled = rules::first_broken(rules::must(few(t.samples), 18, x.traf.at as u64), timed);
+    let named = rules::first_broken(rules::must(k.id == h.id, 17, x.tfhd.at as u64), filled);
     let later = rules::first_broken(clash, named);
-    rules::first_broken(rules::must(flagged(k.flags), 16, tfhd.at as u64), later)
+    rules::first_broken(rules::must(flagged(k.flags), 16, x.tfhd.at as u64), later)
 }
 
-// Rules 20 to 22, by what the samples span: of a start, the place of the first run, and the bytes of the `moof` and of the payload.
-pub fn time(moof: u64, place: u64, start: u64, a: Span, payload: u64) -> Fragment
-    requires { ⌜ (a .ticks ≤ 4294967295 * sampleLimit) × (place ≤ moof) × Local moof (a .tiled) ⌝ }
-    ensures { λ r. ⌜ says r (must (leb 1 (a .ticks) && leb (start + a .ticks) tickLimit) 20 place
-        then must (a .sync) 21 place
-        then a .tiled
-        then must (eqb (a .bytes) payload) 22 moof) moof start (start + a .ticks) ⌝ }
+// Rules 20 to 22, by what the samples span, where their number is right; with the header length and the payload length of the `mdat`.
+pub fn rules_of_sums(
+    m: &[u8],
+    x: InMoof,
+    k: Body,
+    t: Totals,
+    head: u64,
+    payload: u64,
+    h: Header,
+) -> Fragment
+    requires { ⌜ MoofIn (now m) x × BodyIn (now m) (h .defaults) k × (few (t .samples) ≡ true) ⌝ }
+    requires { ⌜ SpansAll (now m) (k .own) (length (now m) + head) (runsIn (now m)) [] (t .samples) (t .span) ⌝ }
+    ensures { λ r. ⌜ says r (rule20 (now (m .entry)) (h .defaults)
+        then rule21 (now (m .entry)) (h .defaults)
+        then rule22 (now (m .entry)) (h .defaults) head payload) (now (m .entry)) (h .defaults) ⌝ }
 {
+    let place = x.run.at as u64;
+    let start = k.start;
+    let a = t.span;
     let last = end_at(start, a.ticks);
-    let End::At(end) = last else {
+    let Lasting::Until(end) = last else {
         return Fragment::Refused { number: 20, place };
     };
     let tiled = a.tiled;
-    let fed = rules::first_broken(tiled, rules::must(a.bytes == payload, 22, moof));
+    let fed = rules::first_broken(tiled, rules::must(a.bytes == payload, 22, m.len() as u64));
     let rule = rules::first_broken(rules::must(a.sync, 21, place), fed);
     match rule {
         Rule::Breaks { number, place, .. } => Fragment::Refused { number, place },
-        Rule::Holds => Fragment::Good(Timed { start, end }),
+        Rule::Holds => Fragment::Good(Interval { start, end }),
     }
 }

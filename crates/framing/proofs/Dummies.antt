@@ -13,36 +13,36 @@ use Rattle.rules.proofs.Jobs.{shut, left-past}
 use Rattle.rules.proofs.Refusals.{index-refusals}
 
 -- two boxes `free` in 16 bytes, one box in as many, and eight nines lent
-unfoldable two : List ℕ
-two = boxed free [] ++ boxed free []
+unfoldable two-boxes : List ℕ
+two-boxes = boxed free [] ++ boxed free []
 
-unfoldable one : List ℕ
-one = boxed free (zeros 8)
+unfoldable one-box : List ℕ
+one-box = boxed free (zeros 8)
 
-unfoldable eight : List ℕ
-eight = nines ++ nines
+unfoldable eight-nines : List ℕ
+eight-nines = nines ++ nines
 
-two-is : indexOutcome two eight ≡ accepted 2 0 (0 ∷ 8 ∷ free ∷ 0 ∷ 8 ∷ 8 ∷ free ∷ 0 ∷ []) eight
-unfolding computed two eight
+two-is : indexOutcome two-boxes eight-nines ≡ accepted 2 0 (0 ∷ 8 ∷ free ∷ 0 ∷ 8 ∷ 8 ∷ free ∷ 0 ∷ []) eight-nines
+unfolding computed two-boxes eight-nines
 two-is = refl
 
-one-is : indexOutcome one eight ≡ accepted 1 0 (0 ∷ 16 ∷ free ∷ 0 ∷ []) eight
-unfolding computed one eight
+one-is : indexOutcome one-box eight-nines ≡ accepted 1 0 (0 ∷ 16 ∷ free ∷ 0 ∷ []) eight-nines
+unfolding computed one-box eight-nines
 one-is = refl
 
 -- one byte is no box
-byte-is : indexOutcome (0 ∷ []) eight ≡ refused 2 0 0 eight
-unfolding computed eight
+byte-is : indexOutcome (0 ∷ []) eight-nines ≡ refused 2 0 0 eight-nines
+unfolding computed eight-nines
 byte-is = refl
 
 shown : Shown indexOutcome
-unfolding computed two one eight
+unfolding computed two-boxes one-box eight-nines
 shown =
     record {
-      good = two;
-      other = one;
+      good = two-boxes;
+      other = one-box;
       bad = 0 ∷ [];
-      lent = eight;
+      lent = eight-nines;
       accepts = ap (λ (o : Outcome). o .verdict .number) two-is;
       writes = ap (λ (o : Outcome). eqb (getD (o .table) 0 0) 9) two-is;
       counts = ap (λ (o : Outcome). eqb (o .verdict .count) 2) one-is;

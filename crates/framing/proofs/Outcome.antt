@@ -64,11 +64,11 @@ module _ (s t : List ℕ) where
         ∙ ap (λ v. outcome v t) (sym w)
 
     -- 0
-    pub good :
+    pub good-index :
         (u : List ℕ) → n ≤ length t / 4 → u ≡ sets t 0 (rows (forest Top s 0) 0 0) →
         indexOutcome s t ≡ outcome (record { number = 0; track = 0; place = 0; count = n; timescale = 0 }) u
     unfolding index roomFor accepted
-    good u m w =
+    good-index u m w =
         framed-by (Framed n) h (sym e ∙ g)
         ∙ ap (λ b. when b (refused 23 0 0 t) (accepted n 0 (index s) t)) (le-ltb (length t) (length (index s)) (omega (arith, long)))
         ∙ ap (outcome (record { number = 0; track = 0; place = 0; count = n; timescale = 0 })) (sym written)

@@ -14,17 +14,17 @@ use Rattle.numbers.specs.Numbers.{when}
 use Rattle.rules.specs.Limits.{boxLimit}
 use Rattle.rules.specs.Boxes.{look, forest, Forest, end, bad, node}
 use Rattle.rules.specs.Framing.{rule5, framing, onFraming, rows}
-use Rattle.rules.proofs.Forest.{Found, forest-nothing, forest-short, forest-small, forest-beyond, forest-box}
+use Rattle.rules.proofs.Forest.{never, FoundBox, forest-nothing, forest-short, forest-small, forest-beyond, forest-box}
 use Rattle.rules.proofs.Look.{the-type}
 use Rattle.rules.specs.declared.Path.{Path}
 use Rattle.rules.specs.declared.Look.{Look}
-use Rattle.rules.specs.declared.Look.the-variants.{Nothing, Short, Small, Beyond, Header}
+use Rattle.rules.specs.declared.Look.the-variants.{Nothing, Short, Small, Beyond, Good}
 use Rattle.rules.specs.declared.Framing.{Framing}
 use Rattle.rules.specs.declared.Framing.the-variants.{Framed, Misframed}
 use Rattle.framing.specs.declared.Wrote.{Wrote}
 use Rattle.framing.specs.declared.Wrote.the-variants.{Past}
 use Rattle.framing.specs.Steps.{Writes}
-use Rattle.framing.proofs.Steps.{never, boxAt}
+use Rattle.framing.proofs.Steps.{boxAt}
 
 -- a run of stores, in two parts
 pub sets-append : (t : List ℕ) (i : ℕ) (xs ys : List ℕ) → sets t i (xs ++ ys) ≡ sets (sets t i xs) (i + length xs) ys
@@ -76,16 +76,16 @@ module _ (path : Path) (s : List ℕ) (at base d : ℕ) where
       by Short e o = ap (λ f. rows f base d) (forest-short path s at e)
       by Small e o = ap (λ f. rows f base d) (forest-small path s at e)
       by Beyond e o = ap (λ f. rows f base d) (forest-beyond path s at e)
-      by (Header x z k) e o = absurd (miss (0 ∷ 1 ∷ 2 ∷ 3 ∷ []) 4 tt o)
+      by (Good x z k) e o = absurd (miss (0 ∷ 1 ∷ 2 ∷ 3 ∷ []) 4 tt o)
 
   -- where the index has room, a framed box's four numbers have it
   pub room :
-      {l : Look} {h z k : ℕ} (row : ℕ) (t : List ℕ) → l ≡ look s at → l ≡ Header h z k →
+      {l : Look} {h z k : ℕ} (row : ℕ) (t : List ℕ) → l ≡ look s at → l ≡ Good h z k →
       row + length (rows (forest path s at) base d) ≤ length t → row + 4 ≤ length t
   unfolding rows
   room {l} {h} {z} {k} row t e g r = omega (arith, ap (λ f. length (rows f base d)) (forest-box path s at h z k (sym e ∙ g)))
 
-  module _ {h z k : ℕ} {i : Forest} (f : Found s at h z k) (e : forest path s at ≡ boxAt path s at h z k i) where
+  module _ {h z k : ℕ} {i : Forest} (f : FoundBox s at h z k) (e : forest path s at ≡ boxAt path s at h z k i) where
     -- a box's index: its four numbers, what is inside it, what follows it
     rows-box : rows (forest path s at) base d ≡ (base + at) ∷ z ∷ k ∷ d ∷ (rows i (base + at + h) (d + 1) ++ rows (forest path s (at + z)) base d)
     unfolding rows
@@ -128,7 +128,7 @@ module _ (path : Path) (s : List ℕ) (at base d : ℕ) where
 
   -- past a leaf: nothing is inside it
   pub writes-leaf :
-      {h z k : ℕ} (row : ℕ) (t u : List ℕ) → Found s at h z k → forest path s at ≡ boxAt path s at h z k end →
+      {h z k : ℕ} (row : ℕ) (t u : List ℕ) → FoundBox s at h z k → forest path s at ≡ boxAt path s at h z k end →
       u ≡ sets t row ((base + at) ∷ z ∷ k ∷ d ∷ []) → Writes (Past (at + z) (row + 4)) s at path base d row t u
   unfolding rows
   writes-leaf row t u f e p = writes-box f e row (row + 4) t u u p refl (omega arith)

@@ -1,73 +1,39 @@
 -- Laws of a step along a run: at the end, at the limit, at a broken header, past a leaf and past a container.
 use mathlib.Core.Path.{_≡_, refl, sym, ap, _∙_, subst, subst⁻¹}
 use mathlib.Core.List.{List, [], _∷_}
-use mathlib.Core.Bool.{Bool, true, false}
+use mathlib.Core.Bool.{true}
 use Prim.Native.Nat.{ℕ, _+_, _-_, _<_, _≤_}
 use native.Mathlib.Omega.{arith}
 use lib.ListN.{length, take, drop, length-take, length-drop}
 use denote.Enum.Declared.{tagOf}
 use types.Run.{OneOf, miss}
-use lib.Dec.{leb, ltb, eqb}
-use borrow.Author.Tests.{eqb-true, le-leb, lt-leb}
-use Rattle.numbers.specs.Numbers.{be4, be8, when}
+use lib.Dec.{leb}
+use borrow.Author.Tests.{le-leb, lt-leb}
 use Rattle.rules.specs.Limits.{boxLimit}
-use Rattle.rules.specs.Boxes.{part, sized, lookAt, look, inside, within, forest, boxes, Forest, end, bad, node}
+use Rattle.rules.specs.Boxes.{part, look, inside, within, forest, boxes, Forest, end, bad, node}
 use Rattle.rules.specs.Framing.{rule5, framing, onFraming}
-use Rattle.rules.proofs.Forest.{look-nothing, look-found, Found, forest-by, forest-nothing, forest-short, forest-small, forest-beyond, forest-box, boxes-nothing}
+use Rattle.rules.proofs.Forest.{look-nothing, nothing-left, look-found, FoundBox, forest-by, forest-nothing, forest-short, forest-small, forest-beyond, forest-box, boxes-nothing}
 use Rattle.rules.proofs.Look.{the-type}
 use Rattle.rules.specs.declared.Path.{Path}
 use Rattle.rules.specs.declared.Inside.{Inside}
-use Rattle.rules.specs.declared.Inside.the-variants.{Leaf, Holds}
+use Rattle.rules.specs.declared.Inside.the-variants.{Leaf, Container}
 use Rattle.rules.specs.declared.Look.{Look}
-use Rattle.rules.specs.declared.Look.the-variants.{Nothing, Short, Small, Beyond, Header}
+use Rattle.rules.specs.declared.Look.the-variants.{Nothing, Short, Small, Beyond, Good}
 use Rattle.rules.specs.declared.Framing.{Framing}
 use Rattle.rules.specs.declared.Framing.the-variants.{Framed, Misframed}
 use Rattle.framing.specs.declared.Step.{Step}
 use Rattle.framing.specs.declared.Step.the-variants.{Past}
 use Rattle.framing.specs.Steps.{Read, brokenAt, passedTo}
 
--- two constructors are never equal
-pub never : {A : Type 0} → _≡_ {A = ℕ} 0 1 → A
-never e = let f : ⊥ = omega arith in absurd f
-
--- a header that says a size is never nothing
-sized-some : (left h z k : ℕ) → sized left h z k ≡ Nothing → ⊥
-unfolding sized
-sized-some left h z k = by (ltb z h) (ltb left z)
-  where
-    by : (t u : Bool) → when t Small (when u Beyond (Header h z k)) ≡ Nothing → ⊥
-    by true u e = never (cc)
-    by false true e = never (cc)
-    by false false e = never (cc)
-
--- where bytes remain something stands
-look-some : (s : List ℕ) (at : ℕ) → look s at ≡ Nothing → length s ≤ at
-unfolding look lookAt
-look-some s at = by (eqb left 0) (ltb left 8) (eqb (be4 s at) 1) (ltb left 16) refl
-  where
-    left : ℕ
-    left = length s - at
-
-    by :
-        (a b o w : Bool) → eqb left 0 ≡ a →
-        when a Nothing (when b Short (when o (when w Short (sized left 16 (be8 s (at + 8)) (be4 s (at + 4)))) (sized left 8 (be4 s at) (be4 s (at + 4)))))
-        ≡ Nothing →
-        length s ≤ at
-    by true b o w p e = omega (arith, eqb-true left 0 p)
-    by false true o w p e = never (cc)
-    by false false true true p e = never (cc)
-    by false false true false p e = absurd (sized-some left 16 (be8 s (at + 8)) (be4 s (at + 4)) e)
-    by false false false w p e = absurd (sized-some left 8 (be4 s at) (be4 s (at + 4)) e)
-
 -- what a header that was read tells
-pub told : {s : List ℕ} {at : ℕ} {l : Look} {h z k : ℕ} → l ≡ look s at → l ≡ Header h z k → Found s at h z k
+pub told : {s : List ℕ} {at : ℕ} {l : Look} {h z k : ℕ} → l ≡ look s at → l ≡ Good h z k → FoundBox s at h z k
 told {s} {at} {l} {h} {z} {k} e g = look-found s at h z k (sym e ∙ g)
 
 -- the part of a slice that is a framed box's body
 abbrev pub bodyAt : List ℕ → ℕ → ℕ → ℕ → List ℕ
 bodyAt s at h z = take (at + z - (at + h)) (drop (at + h) s)
 
-pub body-length : {s : List ℕ} {at h z k : ℕ} → Found s at h z k → length (bodyAt s at h z) ≡ z - h
+pub body-length : {s : List ℕ} {at h z k : ℕ} → FoundBox s at h z k → length (bodyAt s at h z) ≡ z - h
 body-length {s} {at} {h} {z} f = simp (length-take, length-drop) (omega (arith, f))
 
 -- a box of a run, what is inside it and what follows it
@@ -75,7 +41,7 @@ abbrev pub boxAt : Path → List ℕ → ℕ → ℕ → ℕ → ℕ → Forest 
 boxAt path s at h z k i = node (record { at = at; inner = h; size = z; kind = k }) i (forest path s (at + z))
 
 -- the forest where a header and its type were read: of a leaf, and of a container
-module _ (path : Path) (s : List ℕ) (at : ℕ) {h z k : ℕ} {l : Look} {i : Inside} (e : l ≡ look s at) (g : l ≡ Header h z k) (w : i ≡ inside path k) where
+module _ (path : Path) (s : List ℕ) (at : ℕ) {h z k : ℕ} {l : Look} {i : Inside} (e : l ≡ look s at) (g : l ≡ Good h z k) (w : i ≡ inside path k) where
   by-inside : (j : Inside) → i ≡ j → forest path s at ≡ boxAt path s at h z k (within (λ q t. forest q t 0) j (part s (at + h) (z - h)))
   by-inside j m =
       forest-box path s at h z k (sym e ∙ g)
@@ -84,10 +50,10 @@ module _ (path : Path) (s : List ℕ) (at : ℕ) {h z k : ℕ} {l : Look} {i : I
   pub leaf : i ≡ Leaf → forest path s at ≡ boxAt path s at h z k end
   leaf = by-inside Leaf
 
-  pub container : {q : Path} → i ≡ Holds q → forest path s at ≡ boxAt path s at h z k (forest q (bodyAt s at h z) 0)
+  pub container : {q : Path} → i ≡ Container q → forest path s at ≡ boxAt path s at h z k (forest q (bodyAt s at h z) 0)
   container {q} m =
       let n : z - h ≡ at + z - (at + h) = omega (arith, told e g) in
-      by-inside (Holds q) m ∙ ap (λ x. boxAt path s at h z k (forest q (take x (drop (at + h) s)) 0)) n
+      by-inside (Container q) m ∙ ap (λ x. boxAt path s at h z k (forest q (take x (drop (at + h) s)) 0)) n
 
 -- a step whose variant is known
 pub known : {r q : Step} (s : List ℕ) (at : ℕ) (path : Path) (base n : ℕ) → r ≡ q → Read r s at path base n → Read q s at path base n
@@ -111,11 +77,11 @@ module _ (path : Path) (s : List ℕ) (at base n : ℕ) where
       full = le-leb boxLimit n m
 
       by : (l : Look) → look s at ≡ l → framing (forest path s at) base n ≡ Misframed 5 (base + at)
-      by Nothing e = let f : ⊥ = omega (arith, look-some s at e) in absurd f
+      by Nothing e = let f : ⊥ = omega (arith, nothing-left s at e) in absurd f
       by Short e = ap (λ f. framing f base n) (forest-by path s at Short e) ∙ simp full
       by Small e = ap (λ f. framing f base n) (forest-by path s at Small e) ∙ simp full
       by Beyond e = ap (λ f. framing f base n) (forest-by path s at Beyond e) ∙ simp full
-      by (Header x z k) e = ap (λ f. framing f base n) (forest-by path s at (Header x z k) e) ∙ simp full
+      by (Good x z k) e = ap (λ f. framing f base n) (forest-by path s at (Good x z k) e) ∙ simp full
 
   -- rule 5 holds below the limit
   below : n < boxLimit → (p : ℕ) (r : Framing) → rule5 n p r ≡ r
@@ -147,9 +113,9 @@ module _ (path : Path) (s : List ℕ) (at base n : ℕ) where
       by Short e o = at-bad 2 h (forest-short path s at e)
       by Small e o = at-bad 3 h (forest-small path s at e)
       by Beyond e o = at-bad 4 h (forest-beyond path s at e)
-      by (Header x z k) e o = absurd (miss (0 ∷ 1 ∷ 2 ∷ 3 ∷ []) 4 tt o)
+      by (Good x z k) e o = absurd (miss (0 ∷ 1 ∷ 2 ∷ 3 ∷ []) 4 tt o)
 
-  module _ {l : Look} {h z k : ℕ} {i : Inside} (b : n < boxLimit) (e : l ≡ look s at) (g : l ≡ Header h z k) (w : i ≡ inside path k) where
+  module _ {l : Look} {h z k : ℕ} {i : Inside} (b : n < boxLimit) (e : l ≡ look s at) (g : l ≡ Good h z k) (w : i ≡ inside path k) where
     -- past a leaf
     pub reads-leaf : i ≡ Leaf → Read (Past h z k (n + 1)) s at path base n
     unfolding framing
@@ -157,7 +123,7 @@ module _ (path : Path) (s : List ℕ) (at base n : ℕ) where
 
     -- past a container
     pub reads-container :
-        {q : Path} (f : Framing) (r : Step) → i ≡ Holds q → f ≡ framing (forest q (bodyAt s at h z) 0) (base + at + h) (n + 1) →
+        {q : Path} (f : Framing) (r : Step) → i ≡ Container q → f ≡ framing (forest q (bodyAt s at h z) 0) (base + at + h) (n + 1) →
         r ≡ passedTo f h z k → Read r s at path base n
     reads-container {q} f r m a c = subst⁻¹ (λ (x : Step). Read x s at path base n) c (by f a)
       where

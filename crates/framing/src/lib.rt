@@ -30,7 +30,7 @@ pub enum Step {
         kind: u32,
         boxes: usize,
     },
-    End,
+    Nothing,
     Refused {
         number: u64,
         place: usize,
@@ -38,19 +38,19 @@ pub enum Step {
 }
 
 // The step where no box is framed.
-fn broken(l: Look, place: usize) -> Step
+fn broken_step(l: Look, place: usize) -> Step
     ensures { λ r. ⌜ r ≡ brokenAt l place ⌝ }
 {
     match l {
-        Look::Nothing => Step::End,
+        Look::Nothing => Step::Nothing,
         Look::Short => Step::Refused { number: 2, place },
         Look::Small => Step::Refused { number: 3, place },
         Look::Beyond => Step::Refused { number: 4, place },
-        Look::Header {
+        Look::Good {
             head: _,
             size: _,
             kind: _,
-        } => Step::End,
+        } => Step::Nothing,
     }
 }
 
@@ -75,18 +75,18 @@ fn read_box(s: &[u8], at: usize, path: Path, base: usize, n: usize) -> Step
     ensures { λ r. ⌜ Read r (now (s .entry)) at path base n ⌝ }
 {
     if s.len() <= at {
-        return Step::End;
+        return Step::Nothing;
     }
     let place = base + at;
     if BOX_LIMIT <= n {
         return Step::Refused { number: 5, place };
     }
     let l = boxes::look(s, at);
-    let Look::Header { head, size, kind } = l else {
-        return broken(l, place);
+    let Look::Good { head, size, kind } = l else {
+        return broken_step(l, place);
     };
     let next = at + size;
-    let Inside::Holds(inner) = boxes::inside(path, kind) else {
+    let Inside::Container(inner) = boxes::inside(path, kind) else {
         return Step::Past {
             head,
             size,
@@ -112,7 +112,7 @@ pub fn read_run(s: &[u8], path: Path, base: usize, n: usize) -> Framing
                 at += size;
                 count = boxes;
             }
-            Step::End => {
+            Step::Nothing => {
                 return Framing::Framed(count);
             }
             Step::Refused { number, place } => {
@@ -128,7 +128,7 @@ pub fn top_box(s: &[u8], at: usize, n: usize) -> Step
     ensures { λ r. ⌜ Read r (now (s .entry)) at Top 0 n ⌝ }
 {
     if s.len() <= at {
-        return Step::End;
+        return Step::Nothing;
     }
     if BOX_LIMIT <= n {
         return Step::Refused {
@@ -137,12 +137,12 @@ pub fn top_box(s: &[u8], at: usize, n: usize) -> Step
         };
     }
     let l = boxes::look(s, at);
-    let Look::Header { head, size, kind } = l else {
-        return broken(l, at);
+    let Look::Good { head, size, kind } = l else {
+        return broken_step(l, at);
     };
     let next = at + size;
     let boxes = n + 1;
-    let Inside::Holds(inner) = boxes::inside(Path::Top, kind) else {
+    let Inside::Container(inner) = boxes::inside(Path::Top, kind) else {
         return Step::Past {
             head,
             size,
@@ -194,13 +194,13 @@ fn write_box(
     requires { ⌜ row + length (rows (forest path (now s) at) base depth) ≤ length (now t) ⌝ }
     ensures { λ r. ⌜ Writes r (now (s .entry)) at path base depth row (now (t .entry)) (now (t .exit)) ⌝ }
 {
-    let Look::Header { head, size, kind } = boxes::look(s, at) else {
+    let Look::Good { head, size, kind } = boxes::look(s, at) else {
         return Wrote::Done;
     };
     let place = base + at;
     put(t, row, place as u64, size as u64, kind as u64, depth);
     let next = at + size;
-    let Inside::Holds(inner) = boxes::inside(path, kind) else {
+    let Inside::Container(inner) = boxes::inside(path, kind) else {
         return Wrote::Past { next, row: row + 4 };
     };
     let from = at + head;
@@ -231,31 +231,18 @@ fn write_run(s: &[u8], path: Path, base: usize, depth: u64, t: &mut [u64], row: 
     }
 }
 
-// A refusal: no count, no timescale.
-fn refusal(number: u64, place: u64) -> Verdict
-    ensures { λ r. ⌜ r ≡ record { number = number; track = 0; place = place; count = 0; timescale = 0 } ⌝ }
-{
-    Verdict {
-        number,
-        track: 0,
-        place,
-        count: 0,
-        timescale: 0,
-    }
-}
-
 // The index job: rules 1 to 5, then room; four numbers a box, or no number.
-pub fn index(s: &[u8], t: &mut [u64]) -> Verdict
+pub fn index_job(s: &[u8], t: &mut [u64]) -> Verdict
     ensures { λ r. ⌜ Permits indexOutcome (now (s .entry)) (now (t .entry)) r (now (t .exit)) ⌝ }
 {
     if BYTE_LIMIT < s.len() {
-        return refusal(1, 0);
+        return rules::refusal(1, 0, 0);
     }
     match frame(s) {
-        Framing::Misframed { number, place } => refusal(number, place as u64),
+        Framing::Misframed { number, place } => rules::refusal(number, 0, place as u64),
         Framing::Framed(boxes) => {
             if t.len() / 4 < boxes {
-                return refusal(23, 0);
+                return rules::refusal(23, 0, 0);
             }
             write_run(s, Path::Top, 0, 0, t, 0);
             Verdict {

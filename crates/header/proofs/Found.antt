@@ -10,50 +10,45 @@ use Rattle.rules.specs.declared.Entry.{Entry}
 use Rattle.rules.specs.declared.Rule.{Rule}
 use Rattle.rules.specs.declared.Rule.the-variants.{Holds, Breaks}
 use Rattle.rules.specs.declared.Seen.{Seen}
-use Rattle.boxes.specs.Stands.{Whole}
-use Rattle.boxes.specs.declared.Spot.{Spot}
+use Rattle.boxes.specs.Stands.{Whole, StandsAt}
+use Rattle.rules.specs.declared.Spot.{Spot}
 use Rattle.counts.specs.Sights.{seenOf, Sighted, Counts}
 use Rattle.counts.specs.declared.Sight.{Sight}
 use Rattle.counts.specs.declared.Counted.{Counted}
 use Rattle.counts.proofs.Firsts.{counts-join}
-use Rattle.header.specs.Places.{At, Judges}
+use Rattle.rules.proofs.Untracked.{then-is}
+use Rattle.header.specs.Places.{Judges}
 
 -- `moov` stands at its own start
-pub at-start : {m : List ℕ} {h : ℕ} (w : Whole m h) → At m 0 (record { at = 0; head = h; size = length m })
-at-start w = record { is = refl; stands = w }
+pub at-start : {m : List ℕ} {h : ℕ} (w : Whole m h) → StandsAt m 0 (record { at = 0; head = h; size = length m })
+at-start w = record { stands = w; place = refl }
 
 -- in the container that stands at a place
-module _ {m : List ℕ} {x : Spot} {p : ℕ} (h : At m p x) where
+module _ {m : List ℕ} {x : Spot} {p : ℕ} (h : StandsAt m p x) where
   -- the first box of an entry
-  pub met : {e : Entry} {v : Sight} → Sighted m (x .at) e v → At m (firstIn m p e) (v .first)
-  met {e} g = record { is = g .first ∙ ap (λ (i : ℕ). firstIn m i e) (h .is); stands = g .stands .0 }
+  pub met : {e : Entry} {v : Sight} → Sighted m (x .at) e v → StandsAt m (firstIn m p e) (v .first)
+  met {e} g = record { stands = g .stands .0; place = g .first ∙ ap (λ (i : ℕ). firstIn m i e) (h .place) }
 
   -- its counts, by other entries that come to the same
   pub judged : {a b c : Entry} {r : Counted} {q : Rule} → Counts 7 m (x .at) a b c r → counts 7 m p (a ∷ b ∷ c ∷ []) ≡ q
       → Judges m q (r .rule)
-  judged {a} {b} {c} g k = record { is = g .rule ∙ ap (λ (i : ℕ). counts 7 m i (a ∷ b ∷ c ∷ [])) (h .is) ∙ k; low = g .low }
+  judged {a} {b} {c} g k = record { is = g .rule ∙ ap (λ (i : ℕ). counts 7 m i (a ∷ b ∷ c ∷ [])) (h .place) ∙ k; low = g .low }
 
   -- those in a container that may be absent
   pub judged-if : {e : Entry} (w : Entry) {v : Sight} {r : Rule} → Sighted m (x .at) e v → r ≡ countsIf 7 m (seenOf v) (w ∷ []) → placedUpTo (length m) r
       → Judges m (countsIf 7 m (seen e (kids m p)) (w ∷ [])) r
   judged-if {e} w g k l =
       record {
-        is = k ∙ ap (λ (s : Seen). countsIf 7 m s (w ∷ [])) (g .all) ∙ ap (λ (i : ℕ). countsIf 7 m (seen e (kids m i)) (w ∷ [])) (h .is);
+        is = k ∙ ap (λ (s : Seen). countsIf 7 m s (w ∷ [])) (g .all) ∙ ap (λ (i : ℕ). countsIf 7 m (seen e (kids m i)) (w ∷ [])) (h .place);
         low = l;
       }
-
--- what two rules keep, both together keep
-pub then-keeps : (P : Rule → Type 0) (r q : Rule) → P r → P q → P (r then q)
-unfolding _then_
-then-keeps P Holds q h k = k
-then-keeps P (Breaks a t p) q h k = h
 
 -- one container's counts after another's
 pub judged-then : {m : List ℕ} {p q r s t : Rule} → t ≡ (r then s) → Judges m p r → Judges m q s → Judges m (p then q) t
 judged-then {m} {p} {q} {r} {s} e a b =
     record {
       is = e ∙ ap (λ (i : Rule). i then s) (a .is) ∙ ap (λ (i : Rule). p then i) (b .is);
-      low = rw e (then-keeps (placedUpTo (length m)) r s (a .low) (b .low));
+      low = rw e (then-is (placedUpTo (length m)) r s (a .low) (b .low));
     }
 
 -- counts in two walks over one container

@@ -1,78 +1,49 @@
 -- The header's rules break on track 0, each being a rule of one track by itself, and at a place of `moov`.
 use mathlib.Core.Path.{_≡_, refl, _∙_, ap, subst}
-use mathlib.Core.List.{List, [], _∷_}
+use mathlib.Core.List.{List}
 use mathlib.Core.Bool.{Bool, true, false}
 use Prim.Native.Nat.{ℕ, _≤_}
 use native.Mathlib.Omega.{arith}
 use lib.ListN.{length}
 use Rattle.rules.specs.Rules.{_then_, must, placedUpTo}
-use Rattle.rules.specs.Boxes.{kids}
 use Rattle.rules.specs.Fields.{body}
-use Rattle.rules.specs.Counts.{seen, oneOf, atMostOneOf, someOf, counted, counts, countsIf}
+use Rattle.rules.specs.Counts.{counts, countsIf}
 use Rattle.rules.specs.Header.{rule7, rule8, rule10, rule11, rule12, rule13, rulesOfValues}
 use Rattle.rules.specs.declared.Entry.{Entry}
-use Rattle.rules.specs.declared.Entry.the-variants.{Nothing, One, AtMostOne, OneOrMore, OneInAll}
 use Rattle.rules.specs.declared.Rule.{Rule}
 use Rattle.rules.specs.declared.Rule.the-variants.{Holds, Breaks}
 use Rattle.rules.specs.declared.Seen.{Seen}
 use Rattle.rules.specs.declared.Seen.the-variants.{Never, Once, Twice}
+use Rattle.rules.proofs.Untracked.{Untracked, then-is, counts-untracked}
 use Rattle.boxes.specs.Stands.{Stands}
-use Rattle.boxes.specs.declared.Spot.{Spot}
+use Rattle.rules.specs.declared.Spot.{Spot}
 use Rattle.header.specs.Places.{placesBy, LocatedIn}
 use Rattle.header.specs.declared.containers.Located.{Located}
-use Rattle.header.proofs.Found.{then-keeps}
 
--- a rule that holds, or breaks on track 0
-abbrev pub Own : Rule → Type 0
-Own Holds = Unit {0}
-Own (Breaks n t p) = t ≡ 0
-
--- counts of entries
-counted-own : (n at : ℕ) (e : Entry) (v : Seen) → Own (counted n at e v)
-unfolding counted oneOf atMostOneOf someOf
-counted-own n at Nothing v = tt
-counted-own n at (One w) Never = refl
-counted-own n at (One w) (Once a) = tt
-counted-own n at (One w) (Twice a b) = refl
-counted-own n at (AtMostOne w) Never = tt
-counted-own n at (AtMostOne w) (Once a) = tt
-counted-own n at (AtMostOne w) (Twice a b) = refl
-counted-own n at (OneOrMore w) Never = refl
-counted-own n at (OneOrMore w) (Once a) = tt
-counted-own n at (OneOrMore w) (Twice a b) = tt
-counted-own n at (OneInAll u x w) Never = refl
-counted-own n at (OneInAll u x w) (Once a) = tt
-counted-own n at (OneInAll u x w) (Twice a b) = refl
-
-module _ (n : ℕ) (m : List ℕ) where
-  counts-own : (at : ℕ) (es : List Entry) → Own (counts n m at es)
-  unfolding counts
-  counts-own at [] = tt
-  counts-own at (e ∷ es) = then-keeps Own _ _ (counted-own n at e (seen e (kids m at))) (counts-own at es)
-
-  if-own : (v : Seen) (es : List Entry) → Own (countsIf n m v es)
-  unfolding countsIf
-  if-own Never es = tt
-  if-own (Once a) es = counts-own a es
-  if-own (Twice a b) es = counts-own a es
+-- counts in a container that may be absent
+if-own : (n : ℕ) (m : List ℕ) (v : Seen) (es : List Entry) → Untracked (countsIf n m v es)
+unfolding countsIf
+if-own n m Never es = tt
+if-own n m (Once a) es = counts-untracked n m a es
+if-own n m (Twice a b) es = counts-untracked n m a es
 
 -- rule 7
-pub own7 : (m : List ℕ) → Own (rule7 m)
+pub own7 : (m : List ℕ) → Untracked (rule7 m)
 unfolding rule7
 own7 m =
     after _ _ _
     (after _ _ _
-    (then-keeps Own _ _ (if-own 7 m _ _) (after _ _ _ (after _ _ _ (after _ _ _ (after _ _ _ (counts-own 7 m _ _)))))))
+    (then-is Untracked _ _ (if-own 7 m _ _) (after _ _ _ (after _ _ _ (after _ _ _ (after _ _ _ (counts-untracked 7 m _ _)))))))
   where
-    after : (at : ℕ) (es : List Entry) (q : Rule) → Own q → Own (counts 7 m at es then q)
-    after at es q o = then-keeps Own _ q (counts-own 7 m at es) o
+    after : (at : ℕ) (es : List Entry) (q : Rule) → Untracked q → Untracked (counts 7 m at es then q)
+    after at es q o = then-is Untracked _ q (counts-untracked 7 m at es) o
 
 -- a rule that holds, or breaks on track 0 at a place up to n
 abbrev pub Fair : ℕ → Rule → Type 0
 Fair n Holds = Unit {0}
 Fair n (Breaks k t p) = (t ≡ 0) × (p ≤ n)
 
-pub fair : (n : ℕ) (r : Rule) → Own r → placedUpTo n r → Fair n r
+pub fair : (n : ℕ) (r : Rule) → Untracked r → placedUpTo n r → Fair n r
 fair n Holds o l = tt
 fair n (Breaks k t p) o l = (o, l)
 
@@ -93,7 +64,7 @@ module _ {m : List ℕ} {b : Spot} (st : Stands m b) (t : Bool) (k : ℕ) where
       by false = (refl, omega (arith, st .fits))
 
   next : (q : Rule) → Fair (length m) q → Fair (length m) (must t k (b .at) then q)
-  next q f = then-keeps (Fair (length m)) _ q last f
+  next q f = then-is (Fair (length m)) _ q last f
 
 module _ {m : List ℕ} {s : Located} (h : LocatedIn m s) where
   -- rule 8
@@ -112,6 +83,6 @@ module _ {m : List ℕ} {s : Located} (h : LocatedIn m s) where
   unfolding rulesOfValues rule10 rule11 rule12 rule13
   fair-values =
       next (h .trak .mdhd .stands) _ _ _
-      (then-keeps (Fair (length m)) _ _ (next (h .trak .tkhd .stands) _ _ _ (last (h .trex) _ _))
+      (then-is (Fair (length m)) _ _ (next (h .trak .tkhd .stands) _ _ _ (last (h .trex) _ _))
       (next (h .trak .hdlr .stands) _ _ _
       (next (h .minf .stsd .stands) _ _ _ (next (h .minf .stts .stands) _ _ _ (next (h .minf .stsc .stands) _ _ _ (next (h .minf .stsz .stands) _ _ _ (last (h .minf .stco .stands) _ _)))))))

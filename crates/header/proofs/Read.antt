@@ -11,17 +11,17 @@ use Rattle.rules.specs.declared.Rule.the-variants.{Holds, Breaks}
 use Rattle.rules.specs.declared.Defaults.{Defaults}
 use Rattle.rules.proofs.Then.{must-true, must-false}
 use Rattle.boxes.specs.Stands.{Stands}
-use Rattle.boxes.specs.declared.Spot.{Spot}
+use Rattle.rules.specs.declared.Spot.{Spot}
 use Rattle.fields.specs.Versions.{saysVersion}
 use Rattle.fields.specs.declared.Version.{Version}
 use Rattle.fields.proofs.Forms.{least-is, plain-not}
-use Rattle.header.specs.Bodies.{defaultsAt}
+use Rattle.rules.specs.Header.{trexDefaults}
 
 -- rule 8 of a body that has its form, and of one that has not
 module _ (w : Form) (m : List ℕ) (at : ℕ) {r : Bool} (h : r ≡ hasForm w m at) where
-  pub good : r ≡ true → body 8 w m at ≡ Holds
+  pub good-body : r ≡ true → body 8 w m at ≡ Holds
   unfolding body
-  good e = must-true 8 at (sym h ∙ e)
+  good-body e = must-true 8 at (sym h ∙ e)
 
   pub bad : r ≡ false → body 8 w m at ≡ Breaks 8 0 at
   unfolding body
@@ -30,10 +30,10 @@ module _ (w : Form) (m : List ℕ) (at : ℕ) {r : Bool} (h : r ≡ hasForm w m 
 -- a body of two versions
 module _ (m : List ℕ) (b : Spot) (a d : ℕ) {v : Version} (h : saysVersion v m b a d) where
   pub as-zero : v ≡ Version.Zero → (body 8 (either a d) m (b .at) ≡ Holds) × (version m (b .at) ≡ 0) × (b .size + 8 ≡ b .head + a)
-  as-zero e = let k : saysVersion Version.Zero m b a d = rw e at h in (good _ _ _ refl (k .0), k .1, k .2)
+  as-zero e = let k : saysVersion Version.Zero m b a d = rw e at h in (good-body _ _ _ refl (k .0), k .1, k .2)
 
   pub as-one : v ≡ Version.One → (body 8 (either a d) m (b .at) ≡ Holds) × (version m (b .at) ≡ 1) × (b .size + 8 ≡ b .head + d)
-  as-one e = let k : saysVersion Version.One m b a d = rw e at h in (good _ _ _ refl (k .0), k .1, k .2)
+  as-one e = let k : saysVersion Version.One m b a d = rw e at h in (good-body _ _ _ refl (k .0), k .1, k .2)
 
   pub as-wrong : v ≡ Version.Wrong → body 8 (either a d) m (b .at) ≡ Breaks 8 0 (b .at)
   as-wrong e = let k : saysVersion Version.Wrong m b a d = rw e at h in bad _ _ _ refl k
@@ -62,6 +62,6 @@ module _ (m : List ℕ) (b : Spot) (st : Stands m b) {r : Bool} where
       by false q = absurd (true≢false (sym e ∙ h ∙ plain-not m b st a l (eqb-false (b .size - b .head) (a - 8) q)))
 
 -- the defaults of `trex`
-pub defaults-are : (m : List ℕ) (at : ℕ) {d : Defaults} → d .duration ≡ field m at 12 → d .size ≡ field m at 16 → d .flags ≡ field m at 20 → d ≡ defaultsAt m at
-unfolding defaultsAt
+pub defaults-are : (m : List ℕ) (at : ℕ) {d : Defaults} → d .duration ≡ field m at 12 → d .size ≡ field m at 16 → d .flags ≡ field m at 20 → d ≡ trexDefaults m at
+unfolding trexDefaults
 defaults-are m at a b e = rw (← a, ← b, ← e)

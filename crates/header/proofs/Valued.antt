@@ -6,10 +6,10 @@ use Prim.Native.Nat.{ℕ, _+_}
 use lib.Dec.{eqb}
 use Rattle.numbers.specs.Numbers.{be4}
 use Rattle.rules.specs.Rules.{_then_, must}
-use Rattle.rules.specs.Header.{pairs, rule10, rule11, rule12, rule13, rulesOfValues, headerBy, trexDefaults}
+use Rattle.rules.specs.Header.{pairs, rule10, rule11, rule12, rule13, rulesOfValues, headerBy}
 use Rattle.rules.specs.declared.Header.{Header}
 use Rattle.header.specs.Places.{placesBy}
-use Rattle.header.specs.Bodies.{defaultsAt, ValuesIn}
+use Rattle.header.specs.Bodies.{ValuesIn}
 use Rattle.header.specs.declared.containers.Located.{Located}
 use Rattle.header.specs.declared.bodies.Values.{Values}
 
@@ -31,5 +31,5 @@ module _ (m : List ℕ) (s : Located) (v : Values) (h : ValuesIn m s v) where
   -- what the header tells
   pub header-is : {x : Header} → x .timescale ≡ v .heads .timescale → x .id ≡ v .heads .id → x .handler ≡ v .heads .handler → x .defaults ≡ v .defaults
       → x ≡ headerBy m (placesBy s)
-  unfolding headerBy trexDefaults defaultsAt
+  unfolding headerBy
   header-is a b d e = rw (← h .heads .mdhd .1, ← h .heads .tkhd .1, ← h .heads .hdlr .1, ← h .trex .2, ← a, ← b, ← d, ← e)

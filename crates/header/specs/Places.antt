@@ -11,16 +11,11 @@ use Rattle.rules.specs.Header.{inTrak, inEdts, inMdia, inMinf, inDinf, inStbl, 
 use Rattle.rules.specs.declared.Entry.the-variants.{AtMostOne}
 use Rattle.rules.specs.declared.Rule.{Rule}
 use Rattle.rules.specs.declared.Places.{Places}
-use Rattle.boxes.specs.Stands.{Stands}
-use Rattle.boxes.specs.declared.Spot.{Spot}
+use Rattle.boxes.specs.Stands.{Stands, StandsAt}
+use Rattle.rules.specs.declared.Spot.{Spot}
 use Rattle.header.specs.declared.containers.InTrak.{InTrak}
 use Rattle.header.specs.declared.containers.InMinf.{InMinf}
 use Rattle.header.specs.declared.containers.Located.{Located}
-
--- a box stands at a place of `moov`
-pub record At (m : List ℕ) (p : ℕ) (b : Spot) : Type 0 where
-  pub is : b .at ≡ p
-  pub stands : Stands m b
 
 -- r is a container's counts, and breaks in `moov` if it does
 pub record Judges (m : List ℕ) (counted r : Rule) : Type 0 where
@@ -32,22 +27,22 @@ pub record TrakIn (m : List ℕ) (r : InTrak) : Type 0 where
   pub trak : Judges m (counts 7 m (trakIn m) inTrak) (r .trak)
   pub edts : Judges m (countsIf 7 m (seen (AtMostOne edts) (kids m (trakIn m))) inEdts) (r .edts)
   pub mdia : Judges m (counts 7 m (mdiaIn m) inMdia) (r .mdia)
-  pub tkhd : At m (child m (trakIn m) tkhd) (r .tkhd)
-  pub mdhd : At m (child m (mdiaIn m) mdhd) (r .mdhd)
-  pub hdlr : At m (child m (mdiaIn m) hdlr) (r .hdlr)
-  pub minf : At m (minfIn m) (r .minf)
+  pub tkhd : StandsAt m (child m (trakIn m) tkhd) (r .tkhd)
+  pub mdhd : StandsAt m (child m (mdiaIn m) mdhd) (r .mdhd)
+  pub hdlr : StandsAt m (child m (mdiaIn m) hdlr) (r .hdlr)
+  pub minf : StandsAt m (minfIn m) (r .minf)
 
 -- the counts in `minf`, its `dinf` and its `stbl`, and their boxes
 pub record MinfIn (m : List ℕ) (r : InMinf) : Type 0 where
   pub minf : Judges m (counts 7 m (minfIn m) inMinf) (r .minf)
   pub dinf : Judges m (counts 7 m (dinfIn m) inDinf) (r .dinf)
   pub stbl : Judges m (counts 7 m (stblIn m) inStbl) (r .stbl)
-  pub media : At m (firstIn m (minfIn m) media) (r .media)
-  pub stsd : At m (child m (stblIn m) stsd) (r .stsd)
-  pub stts : At m (child m (stblIn m) stts) (r .stts)
-  pub stsc : At m (child m (stblIn m) stsc) (r .stsc)
-  pub stsz : At m (child m (stblIn m) stsz) (r .stsz)
-  pub stco : At m (child m (stblIn m) stco) (r .stco)
+  pub media : StandsAt m (firstIn m (minfIn m) media) (r .media)
+  pub stsd : StandsAt m (child m (stblIn m) stsd) (r .stsd)
+  pub stts : StandsAt m (child m (stblIn m) stts) (r .stts)
+  pub stsc : StandsAt m (child m (stblIn m) stsc) (r .stsc)
+  pub stsz : StandsAt m (child m (stblIn m) stsz) (r .stsz)
+  pub stco : StandsAt m (child m (stblIn m) stco) (r .stco)
 
 -- the places of the header's boxes
 abbrev pub placesBy : Located → Places

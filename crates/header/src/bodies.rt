@@ -5,9 +5,9 @@ ghost use Rattle.boxes.specs.Stands.{Stands};
 ghost use Rattle.header.specs.Places.{LocatedIn};
 ghost use Rattle.header.specs.Bodies.{saysMvhd, saysBody, saysTrex, HeadsIn, BodiesAs};
 use crate::containers::Located;
-use boxes::Spot;
 use fields::Version;
 use rules::Defaults;
+use rules::Spot;
 
 // What the body of `mvhd` is.
 pub enum Mvhd {
@@ -48,7 +48,7 @@ pub struct Values {
 
 // What rule 8 answers: what the bodies tell, or the place of the first wrong one.
 pub enum Bodies {
-    Read(Values),
+    Tell(Values),
     Wrong(usize),
 }
 
@@ -107,7 +107,7 @@ fn read_trex(m: &[u8], b: Spot) -> Trex
 }
 
 // Rule 8 from `stts` on, after what was read before.
-fn rule8_tables(m: &[u8], s: Located, heads: Heads) -> Bodies
+fn read_tables(m: &[u8], s: Located, heads: Heads) -> Bodies
     requires { ⌜ LocatedIn (now m) s × HeadsIn (now m) s heads ⌝ }
     ensures { λ r. ⌜ BodiesAs r (now (m .entry)) s ⌝ }
 {
@@ -126,7 +126,7 @@ fn rule8_tables(m: &[u8], s: Located, heads: Heads) -> Bodies
     let Trex::Of { id: trex, defaults } = read_trex(m, s.trex) else {
         return Bodies::Wrong(s.trex.at);
     };
-    Bodies::Read(Values {
+    Bodies::Tell(Values {
         heads,
         stts,
         stsc,
@@ -138,7 +138,7 @@ fn rule8_tables(m: &[u8], s: Located, heads: Heads) -> Bodies
 }
 
 // Rule 8 of the bodies in `moov`, in the paper's order.
-pub fn rule8(m: &[u8], s: Located) -> Bodies
+pub fn read_bodies(m: &[u8], s: Located) -> Bodies
     requires { ⌜ LocatedIn (now m) s ⌝ }
     ensures { λ r. ⌜ BodiesAs r (now (m .entry)) s ⌝ }
 {
@@ -163,5 +163,5 @@ pub fn rule8(m: &[u8], s: Located) -> Bodies
         handler,
         stsd,
     };
-    rule8_tables(m, s, heads)
+    read_tables(m, s, heads)
 }

@@ -1,13 +1,13 @@
 // Rule 7, container by container: the counts of its boxes, and where the first of each stands in `moov`.
 ghost use Rattle.rules.specs.Header.{trakIn, minfIn};
-ghost use Rattle.boxes.specs.Stands.{Whole};
-ghost use Rattle.header.specs.Places.{At, TrakIn, MinfIn, LocatedIn};
-use boxes::Spot;
+ghost use Rattle.boxes.specs.Stands.{Whole, StandsAt};
+ghost use Rattle.header.specs.Places.{TrakIn, MinfIn, LocatedIn};
 use boxes::kinds;
-use counts::counts;
+use counts::count_boxes;
 use counts::counts_if;
 use rules::Entry;
 use rules::Rule;
+use rules::Spot;
 use rules::first_broken;
 
 // The counts in `trak`, its `edts` and its `mdia`, and where their boxes stand.
@@ -45,14 +45,14 @@ pub struct Located {
 
 // `trak`: one `tkhd`, at most one `edts` with one `elst`, one `mdia` with one `mdhd`, one `hdlr`, at most one `elng`, one `minf`.
 fn in_trak(m: &[u8], x: Spot) -> InTrak
-    requires { ⌜ At (now m) (trakIn (now m)) x ⌝ }
+    requires { ⌜ StandsAt (now m) (trakIn (now m)) x ⌝ }
     ensures { λ r. ⌜ TrakIn (now (m .entry)) r ⌝ }
 {
     let none = Entry::Nothing;
     let tkhd = Entry::One(kinds::TKHD);
     let edts = Entry::AtMostOne(kinds::EDTS);
     let mdia = Entry::One(kinds::MDIA);
-    let k = counts(7, m, x, tkhd, edts, mdia);
+    let k = count_boxes(7, m, x, tkhd, edts, mdia);
     let trak = k.rule;
     let tkhd = k.a.first;
     let edts = k.b;
@@ -61,11 +61,11 @@ fn in_trak(m: &[u8], x: Spot) -> InTrak
     let hdlr = Entry::One(kinds::HDLR);
     let elng = Entry::AtMostOne(kinds::ELNG);
     let minf = Entry::One(kinds::MINF);
-    let k = counts(7, m, y, mdhd, hdlr, elng);
+    let k = count_boxes(7, m, y, mdhd, hdlr, elng);
     let front = k.rule;
     let mdhd = k.a.first;
     let hdlr = k.b.first;
-    let k = counts(7, m, y, minf, none, none);
+    let k = count_boxes(7, m, y, minf, none, none);
     let last = k.rule;
     let minf = k.a.first;
     InTrak {
@@ -81,32 +81,32 @@ fn in_trak(m: &[u8], x: Spot) -> InTrak
 
 // `minf`: one in all of `vmhd`, `smhd`, `sthd`; one `dinf` with one `dref`; one `stbl` with one each of its five tables.
 fn in_minf(m: &[u8], x: Spot) -> InMinf
-    requires { ⌜ At (now m) (minfIn (now m)) x ⌝ }
+    requires { ⌜ StandsAt (now m) (minfIn (now m)) x ⌝ }
     ensures { λ r. ⌜ MinfIn (now (m .entry)) r ⌝ }
 {
     let none = Entry::Nothing;
     let media = Entry::OneInAll(kinds::VMHD, kinds::SMHD, kinds::STHD);
     let dinf = Entry::One(kinds::DINF);
     let stbl = Entry::One(kinds::STBL);
-    let k = counts(7, m, x, media, dinf, stbl);
+    let k = count_boxes(7, m, x, media, dinf, stbl);
     let minf = k.rule;
     let media = k.a.first;
     let dinf = k.b.first;
     let y = k.c.first;
     let dref = Entry::One(kinds::DREF);
-    let k = counts(7, m, dinf, dref, none, none);
+    let k = count_boxes(7, m, dinf, dref, none, none);
     let dinf = k.rule;
     let stsd = Entry::One(kinds::STSD);
     let stts = Entry::One(kinds::STTS);
     let stsc = Entry::One(kinds::STSC);
     let stsz = Entry::One(kinds::STSZ);
     let stco = Entry::One(kinds::STCO);
-    let k = counts(7, m, y, stsd, stts, stsc);
+    let k = count_boxes(7, m, y, stsd, stts, stsc);
     let front = k.rule;
     let stsd = k.a.first;
     let stts = k.b.first;
     let stsc = k.c.first;
-    let k = counts(7, m, y, stsz, stco, none);
+    let k = count_boxes(7, m, y, stsz, stco, none);
     let last = k.rule;
     let stsz = k.a.first;
     let stco = k.b.first;
@@ -124,7 +124,7 @@ fn in_minf(m: &[u8], x: Spot) -> InMinf
 }
 
 // Rule 7: `moov` with one `mvhd`, `trak` and `mvex`, then what is in `trak`, then `mvex` with one `trex`.
-pub fn rule7(m: &[u8], head: usize) -> Located
+pub fn locate_boxes(m: &[u8], head: usize) -> Located
     requires { ⌜ Whole (now m) head ⌝ }
     ensures { λ r. ⌜ LocatedIn (now (m .entry)) r ⌝ }
 {
@@ -134,7 +134,7 @@ pub fn rule7(m: &[u8], head: usize) -> Located
     let mvhd = Entry::One(kinds::MVHD);
     let trak = Entry::One(kinds::TRAK);
     let mvex = Entry::One(kinds::MVEX);
-    let k = counts(7, m, x, mvhd, trak, mvex);
+    let k = count_boxes(7, m, x, mvhd, trak, mvex);
     let moov = k.rule;
     let mvhd = k.a.first;
     let trak = k.b.first;
@@ -142,7 +142,7 @@ pub fn rule7(m: &[u8], head: usize) -> Located
     let t = in_trak(m, trak);
     let i = in_minf(m, t.minf);
     let trex = Entry::One(kinds::TREX);
-    let k = counts(7, m, y, trex, none, none);
+    let k = count_boxes(7, m, y, trex, none, none);
     let mvex = k.rule;
     let trex = k.a.first;
     let trak = t.trak;

@@ -8,9 +8,9 @@ ghost use Rattle.boxes.specs.Stands.{Whole};
 ghost use Rattle.header.specs.Places.{LocatedIn};
 ghost use Rattle.header.specs.Answers.{HeadsAs, headsUpTo};
 use bodies::Bodies;
-use bodies::rule8;
+use bodies::read_bodies;
 use containers::Located;
-use containers::rule7;
+use containers::locate_boxes;
 use rules::Ftyp;
 use rules::Header;
 use rules::Rule;
@@ -30,31 +30,31 @@ pub struct HeaderFacts {
 }
 
 // What rules 7 to 13 answer: the header's facts, a refusal at `ftyp`, or one at a place of `moov`.
-pub enum Headed {
+pub enum HeaderAnswer {
     Good(HeaderFacts),
-    Ftyp(u64),
-    Moov { number: u64, place: u64 },
+    OfFtyp(u64),
+    OfMoov { number: u64, place: u64 },
 }
 
 // Rules 8 to 13, where rule 7 holds and `ftyp` has a good body.
-fn check_bodies(branded: bool, m: &[u8], s: Located) -> Headed
+fn check_bodies(branded: bool, m: &[u8], s: Located) -> HeaderAnswer
     requires { ⌜ LocatedIn (now m) s × (rule7 (now m) ≡ Holds) ⌝ }
     ensures { λ r. ⌜ HeadsAs r (Branded branded) (now (m .entry)) ⌝ }
     ensures { λ r. ⌜ headsUpTo r (length (now (m .entry))) ⌝ }
 {
-    let bodies = rule8(m, s);
+    let bodies = read_bodies(m, s);
     match bodies {
-        Bodies::Wrong(at) => Headed::Moov {
+        Bodies::Wrong(at) => HeaderAnswer::OfMoov {
             number: 8,
             place: at as u64,
         },
-        Bodies::Read(v) => {
+        Bodies::Tell(v) => {
             if !branded {
-                return Headed::Ftyp(9);
+                return HeaderAnswer::OfFtyp(9);
             }
             let values = rules_of_values(m, s, v);
             match values {
-                Rule::Breaks { number, place, .. } => Headed::Moov { number, place },
+                Rule::Breaks { number, place, .. } => HeaderAnswer::OfMoov { number, place },
                 Rule::Holds => {
                     let h = v.heads;
                     let defaults = v.defaults;
@@ -66,7 +66,7 @@ fn check_bodies(branded: bool, m: &[u8], s: Located) -> Headed
                     };
                     let mdhd = s.trak.mdhd.at;
                     let hdlr = s.trak.hdlr.at;
-                    Headed::Good(HeaderFacts { header, mdhd, hdlr })
+                    HeaderAnswer::Good(HeaderFacts { header, mdhd, hdlr })
                 }
             }
         }
@@ -74,18 +74,18 @@ fn check_bodies(branded: bool, m: &[u8], s: Located) -> Headed
 }
 
 // Rules 7 to 13 over what `ftyp` tells and the bytes of `moov`, whose header has some bytes.
-pub fn check(f: Ftyp, m: &[u8], head: usize) -> Headed
+pub fn check_header(f: Ftyp, m: &[u8], head: usize) -> HeaderAnswer
     requires { ⌜ Whole (now m) head ⌝ }
     ensures { λ r. ⌜ HeadsAs r f (now (m .entry)) ⌝ }
     ensures { λ r. ⌜ headsUpTo r (length (now (m .entry))) ⌝ }
 {
-    let s = rule7(m, head);
+    let s = locate_boxes(m, head);
     let rule = s.rule;
     match rule {
-        Rule::Breaks { number, place, .. } => Headed::Moov { number, place },
+        Rule::Breaks { number, place, .. } => HeaderAnswer::OfMoov { number, place },
         Rule::Holds => {
             let Ftyp::Branded(branded) = f else {
-                return Headed::Ftyp(8);
+                return HeaderAnswer::OfFtyp(8);
             };
             check_bodies(branded, m, s)
         }

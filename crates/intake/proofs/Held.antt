@@ -12,5 +12,5 @@ pub held : (n : ℕ) (xs : List ℕ) → n ≤ length xs → Within (Held n) xs
 held n xs h = (h, sym (length-take-le n xs h))
 
 -- bytes that are held are the front of the buffer
-pub front : (xs : List ℕ) {r : Input} {n : ℕ} → r ≡ Held n → Within r xs → Within (Held n) xs
-front xs e w = subst (λ (i : Input). Within i xs) e w
+pub held-front : (xs : List ℕ) {r : Input} {n : ℕ} → r ≡ Held n → Within r xs → Within (Held n) xs
+held-front xs e w = subst (λ (i : Input). Within i xs) e w

@@ -34,28 +34,28 @@ enough (suc j) (suc k) n h g = by (ltb n 10) refl (enough j k (n / 10))
         let f : 10 ≤ n = ltb-false n 10 e in
         last j n f ∙ ap (λ (l : List ℕ). l ++ (digit (n % 10) ∷ [])) (rest (omega arith) (omega arith)) ∙ sym (last k n f)
 
-pub few : (n : ℕ) → n < 10 → decimal n ≡ digit n ∷ []
+pub below-ten : (n : ℕ) → n < 10 → decimal n ≡ digit n ∷ []
 unfolding decimal
-few n h = rw add-one (one n n h)
+below-ten n h = rw add-one (one n n h)
 
-pub more : (n : ℕ) → 10 ≤ n → decimal n ≡ decimal (n / 10) ++ (digit (n % 10) ∷ [])
+pub from-ten : (n : ℕ) → 10 ≤ n → decimal n ≡ decimal (n / 10) ++ (digit (n % 10) ∷ [])
 unfolding decimal
-more n h =
+from-ten n h =
     rw (add-one n)
     (last n n h ∙ ap (λ (l : List ℕ). l ++ (digit (n % 10) ∷ [])) (enough n (n / 10 + 1) (n / 10) (omega arith) (omega arith)))
 
 -- how many digits a number of 10 or more has
 pub one-more : (n : ℕ) → 10 ≤ n → length (decimal n) ≡ length (decimal (n / 10)) + 1
-one-more n h = ap length (more n h) ∙ simp length-append
+one-more n h = ap length (from-ten n h) ∙ simp length-append
 
 -- a number below a power of 10 has at most so many digits
 pub at-most : (k n : ℕ) → n < 10 ^ suc k → length (decimal n) ≤ suc k
-at-most zero n h = omega (arith, ap length (few n h))
+at-most zero n h = omega (arith, ap length (below-ten n h))
 at-most (suc k) n h = by (ltb n 10) refl (at-most k (n / 10))
   where
     by : (t : Bool) → ltb n 10 ≡ t → (n / 10 < 10 ^ suc k → length (decimal (n / 10)) ≤ suc k)
         → length (decimal n) ≤ suc (suc k)
-    by true e rest = omega (arith, ap length (few n (ltb-true n 10 e)))
+    by true e rest = omega (arith, ap length (below-ten n (ltb-true n 10 e)))
     by false e rest =
         let x : n < 10 ^ suc k * 10 = rw (pow-suc 10 (suc k)) at h in
         omega (arith, one-more n (ltb-false n 10 e), rest (omega arith))

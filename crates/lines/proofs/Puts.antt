@@ -27,8 +27,8 @@ then {l} {at} {xs} {n} {m} {ys} {n′} {m′} p q =
     }
 
 -- a whole line at the start
-pub whole : {l xs : List ℕ} {n : ℕ} {m : List ℕ} → Put l 0 xs n m → n ≤ length l → Line xs l n m
-whole {l} {xs} {n} {m} p h =
+pub whole-line : {l xs : List ℕ} {n : ℕ} {m : List ℕ} → Put l 0 xs n m → n ≤ length l → Line xs l n m
+whole-line {l} {xs} {n} {m} p h =
     let e : n ≡ length xs = omega (arith, p .next) in
     let z : 0 + length xs ≡ length xs = omega arith in
     let w : n ≤ length m = omega (arith, ap length (p .now-is), length-sets l 0 xs) in
@@ -48,9 +48,9 @@ pub line-unique : {l xs : List ℕ} {n k : ℕ} {m o : List ℕ} → Line xs l n
 line-unique p q = (p .size ∙ sym (q .size), p .starts ∙ sym (q .starts))
 
 -- one more byte of a text
-pub grown : (l : List ℕ) (at : ℕ) (xs : List ℕ) (i : ℕ) (m : List ℕ) → i < length xs → m ≡ sets l at (take i xs)
+pub byte-more : (l : List ℕ) (at : ℕ) (xs : List ℕ) (i : ℕ) (m : List ℕ) → i < length xs → m ≡ sets l at (take i xs)
     → set m (at + i) (getD xs i 0) ≡ sets l at (take (i + 1) xs)
-grown l at xs i m h e =
+byte-more l at xs i m h e =
     let front : length (take i xs) ≡ i = length-take-le i xs (omega arith) in
     let next : take (i + 1) xs ≡ take i xs ++ (getD xs i 0 ∷ []) = rw add-one (take-suc xs i 0 h) in
     ap (λ (k : List ℕ). set k (at + i) (getD xs i 0)) e
@@ -59,8 +59,8 @@ grown l at xs i m h e =
     ∙ ap (sets l at) (sym next)
 
 -- a whole text
-pub put : (l : List ℕ) (at : ℕ) (xs : List ℕ) (i : ℕ) (m : List ℕ) → i ≤ length xs → length xs ≤ i → m ≡ sets l at (take i xs) → Put l at xs (at + i) m
-put l at xs i m h g e =
+pub whole-text : (l : List ℕ) (at : ℕ) (xs : List ℕ) (i : ℕ) (m : List ℕ) → i ≤ length xs → length xs ≤ i → m ≡ sets l at (take i xs) → Put l at xs (at + i) m
+whole-text l at xs i m h g e =
     record {
       next = omega arith;
       now-is = e ∙ ap (sets l at) (take-all i xs g);

@@ -21,16 +21,16 @@ unfoldable pub decimal : ℕ → List ℕ
 decimal n = digits (n + 1) n
 
 -- a text and a number behind it
-abbrev pub field : List ℕ → ℕ → List ℕ
-field text n = text ++ decimal n
+abbrev pub fieldOf : List ℕ → ℕ → List ℕ
+fieldOf text n = text ++ decimal n
 
 -- the line end
 abbrev pub lineEnd : List ℕ
 lineEnd = 0x0a ∷ []
 
 -- `refused `
-abbrev pub refused : List ℕ
-refused = 0x72 ∷ 0x65 ∷ 0x66 ∷ 0x75 ∷ 0x73 ∷ 0x65 ∷ 0x64 ∷ 0x20 ∷ []
+abbrev pub refusedBy : List ℕ
+refusedBy = 0x72 ∷ 0x65 ∷ 0x66 ∷ 0x75 ∷ 0x73 ∷ 0x65 ∷ 0x64 ∷ 0x20 ∷ []
 
 -- ` track `
 abbrev pub inTrack : List ℕ
@@ -41,8 +41,8 @@ abbrev pub atPlace : List ℕ
 atPlace = 0x20 ∷ 0x61 ∷ 0x74 ∷ 0x20 ∷ []
 
 -- `accepted tracks `
-abbrev pub accepted : List ℕ
-accepted = 0x61 ∷ 0x63 ∷ 0x63 ∷ 0x65 ∷ 0x70 ∷ 0x74 ∷ 0x65 ∷ 0x64 ∷ 0x20 ∷ 0x74 ∷ 0x72 ∷ 0x61 ∷ 0x63 ∷ 0x6b ∷ 0x73 ∷ 0x20 ∷ []
+abbrev pub acceptedTracks : List ℕ
+acceptedTracks = 0x61 ∷ 0x63 ∷ 0x63 ∷ 0x65 ∷ 0x70 ∷ 0x74 ∷ 0x65 ∷ 0x64 ∷ 0x20 ∷ 0x74 ∷ 0x72 ∷ 0x61 ∷ 0x63 ∷ 0x6b ∷ 0x73 ∷ 0x20 ∷ []
 
 -- ` fragments `
 abbrev pub ofFragments : List ℕ
@@ -66,12 +66,12 @@ space = 0x20 ∷ []
 
 -- `refused N track T at P`, one line
 unfoldable pub refusedLine : ℕ → ℕ → ℕ → List ℕ
-refusedLine number track place = field refused number ++ field inTrack track ++ field atPlace place ++ lineEnd
+refusedLine number track place = fieldOf refusedBy number ++ fieldOf inTrack track ++ fieldOf atPlace place ++ lineEnd
 
 -- `accepted tracks N fragments F timescale Z`, one line
 unfoldable pub acceptedLine : ℕ → ℕ → ℕ → List ℕ
 acceptedLine tracks fragments timescale =
-    field accepted tracks ++ field ofFragments fragments ++ field atTimescale timescale ++ lineEnd
+    fieldOf acceptedTracks tracks ++ fieldOf ofFragments fragments ++ fieldOf atTimescale timescale ++ lineEnd
 
 -- a number alone, one line
 unfoldable pub tickLine : ℕ → List ℕ
@@ -84,7 +84,7 @@ tickLines (tick ∷ ticks) = tickLine tick ++ tickLines ticks
 
 -- `input over N bytes`, one line
 unfoldable pub overLine : ℕ → List ℕ
-overLine limit = field inputOver limit ++ ofBytes ++ lineEnd
+overLine limit = fieldOf inputOver limit ++ ofBytes ++ lineEnd
 
 -- the outcome of the set job on so many tracks: the accepted line and the F + 1 boundaries, one a line; or the refused line
 unfoldable pub setLines : ℕ → Outcome → List ℕ
@@ -96,9 +96,9 @@ setLines tracks o =
 -- a verdict's five numbers, a space before each
 unfoldable pub spaced : Verdict → List ℕ
 spaced v =
-    field space (v .number) ++ field space (v .track) ++ field space (v .place) ++ field space (v .count)
-    ++ field space (v .timescale)
+    fieldOf space (v .number) ++ fieldOf space (v .track) ++ fieldOf space (v .place) ++ fieldOf space (v .count)
+    ++ fieldOf space (v .timescale)
 
 -- `job number track place count timescale sum`, one line
 unfoldable pub caseLine : ℕ → Verdict → ℕ → List ℕ
-caseLine job v sum = decimal job ++ spaced v ++ field space sum ++ lineEnd
+caseLine job v sum = decimal job ++ spaced v ++ fieldOf space sum ++ lineEnd

@@ -3,7 +3,7 @@ use rules::Verdict;
 ghost use mathlib.Core.List.{_∷_, []};
 ghost use Prim.Native.Nat.{_+_, _*_, _≤_, _<_};
 ghost use lib.ListN.{length, take};
-ghost use Rattle.lines.specs.Lines.{digit, decimal, field, lineEnd, spaced, caseLine};
+ghost use Rattle.lines.specs.Lines.{digit, decimal, fieldOf, lineEnd, spaced, caseLine};
 ghost use Rattle.lines.specs.Lines.{acceptedLine, refusedLine, tickLine, tickLines, overLine, setLines};
 ghost use Rattle.lines.specs.Puts.{Put, Line};
 
@@ -44,7 +44,7 @@ fn put_text(text: &[u8], at: usize, out: &mut [u8]) -> usize
 // Puts a text and a number behind it at a place, and answers the place behind them.
 fn put_field(text: &[u8], n: u64, at: usize, out: &mut [u8]) -> usize
     requires { ⌜ at + length (now text) + 20 ≤ length (now out) ⌝ }
-    ensures { λ r. ⌜ Put (now (out .entry)) at (field (now (text .entry)) n) r (now (out .exit)) ⌝ }
+    ensures { λ r. ⌜ Put (now (out .entry)) at (fieldOf (now (text .entry)) n) r (now (out .exit)) ⌝ }
     ensures { λ r. ⌜ r ≤ at + length (now (text .entry)) + 20 ⌝ }
 {
     let next = put_text(text, at, out);
@@ -52,7 +52,7 @@ fn put_field(text: &[u8], n: u64, at: usize, out: &mut [u8]) -> usize
 }
 
 // Puts the line end at a place, and answers the place behind it.
-fn put_end(at: usize, out: &mut [u8]) -> usize
+fn put_line_end(at: usize, out: &mut [u8]) -> usize
     requires { ⌜ at < length (now out) ⌝ }
     ensures { λ r. ⌜ Put (now (out .entry)) at lineEnd r (now (out .exit)) ⌝ }
 {
@@ -69,7 +69,7 @@ fn refused_line(number: u64, track: u64, place: u64, out: &mut [u8]) -> usize
     let a = put_field(b"refused ", number, 0, out);
     let b = put_field(b" track ", track, a, out);
     let c = put_field(b" at ", place, b, out);
-    put_end(c, out)
+    put_line_end(c, out)
 }
 
 // Puts the line of an accepted set at the start, and answers the place behind it.
@@ -81,7 +81,7 @@ fn accepted_line(tracks: u64, fragments: u64, timescale: u64, out: &mut [u8]) ->
     let a = put_field(b"accepted tracks ", tracks, 0, out);
     let b = put_field(b" fragments ", fragments, a, out);
     let c = put_field(b" timescale ", timescale, b, out);
-    put_end(c, out)
+    put_line_end(c, out)
 }
 
 // Puts the line of a boundary at a place, and answers the place behind it.
@@ -91,7 +91,7 @@ fn tick_line(tick: u64, at: usize, out: &mut [u8]) -> usize
     ensures { λ r. ⌜ r ≤ at + 21 ⌝ }
 {
     let a = put_field(b"", tick, at, out);
-    put_end(a, out)
+    put_line_end(a, out)
 }
 
 // Puts the numbers 0 to last of a table at a place, one a line, and answers the place behind them.
@@ -131,7 +131,7 @@ pub fn over_line(limit: u64, out: &mut [u8]) -> usize
 {
     let a = put_field(b"input over ", limit, 0, out);
     let b = put_text(b" bytes", a, out);
-    put_end(b, out)
+    put_line_end(b, out)
 }
 
 // Puts the five numbers of a verdict, a space before each, at a place, and answers the place behind them.
@@ -155,5 +155,5 @@ pub fn case_line(job: u64, v: Verdict, sum: u64, out: &mut [u8]) -> usize
     let a = put_field(b"", job, 0, out);
     let b = put_verdict(v, a, out);
     let c = put_field(b" ", sum, b, out);
-    put_end(c, out)
+    put_line_end(c, out)
 }

@@ -13,7 +13,7 @@ pub fn byte(s: &[u8], at: usize) -> u8
 }
 
 // The byte n places after a place, where their sum may not fit.
-fn after(s: &[u8], at: usize, n: usize) -> u8
+fn byte_after(s: &[u8], at: usize, n: usize) -> u8
     ensures { λ r. ⌜ r ≡ byte (now (s .entry)) (at + n) ⌝ }
 {
     if at < s.len() {
@@ -85,10 +85,10 @@ fn slow4(s: &[u8], at: usize, n: usize) -> u32
     ensures { λ r. ⌜ r ≡ be4 (now (s .entry)) (at + n) ⌝ }
 {
     four(
-        after(s, at, n),
-        after(s, at, n + 1),
-        after(s, at, n + 2),
-        after(s, at, n + 3),
+        byte_after(s, at, n),
+        byte_after(s, at, n + 1),
+        byte_after(s, at, n + 2),
+        byte_after(s, at, n + 3),
     )
 }
 
@@ -102,7 +102,7 @@ pub fn be2(s: &[u8], at: usize) -> u32
             return two(s[at], s[at + 1]);
         }
     }
-    two(byte(s, at), after(s, at, 1))
+    two(byte(s, at), byte_after(s, at, 1))
 }
 
 // The number in the three bytes at a place.
@@ -115,7 +115,7 @@ pub fn be3(s: &[u8], at: usize) -> u32
             return near3(s, at);
         }
     }
-    three(byte(s, at), after(s, at, 1), after(s, at, 2))
+    three(byte(s, at), byte_after(s, at, 1), byte_after(s, at, 2))
 }
 
 // The number in the four bytes at a place.

@@ -6,17 +6,17 @@ use mathlib.Core.Path.{_≡_}
 use lib.ListN.{take}
 use Rattle.bundle.specs.Front.{bundleLength}
 use Rattle.pack.specs.declared.Size.{Size}
-use Rattle.pack.specs.declared.Size.the-variants.{Bytes, Over, Unread}
+use Rattle.pack.specs.declared.Size.the-variants.{Bytes, TooLong, Unread}
 use Rattle.pack.specs.declared.File.{File}
 use Rattle.pack.specs.declared.File.the-variants.{Ready, Refused}
 use Rattle.pack.specs.declared.Place.{Place}
 use Rattle.pack.specs.declared.Place.the-variants.{At, Stopped}
 
 -- a file that was counted is, with the bytes of the bundle before it, within the limit
-abbrev pub Counted : Size → ℕ → Type 0
-Counted (Bytes n) from = from + n ≤ 1073741824
-Counted Over from = Unit {0}
-Counted Unread from = Unit {0}
+abbrev pub WithinLimit : Size → ℕ → Type 0
+WithinLimit (Bytes n) from = from + n ≤ 1073741824
+WithinLimit TooLong from = Unit {0}
+WithinLimit Unread from = Unit {0}
 
 -- and so is one that was made ready
 abbrev pub Readied : File → ℕ → Type 0
@@ -24,14 +24,14 @@ Readied (Ready fd n) from = from + n ≤ 1073741824
 Readied Refused from = Unit {0}
 
 -- where all files are ready, the bundle of the first so many sizes is within the limit
-abbrev pub Fits : Bool → ℕ → List ℕ → Type 0
-Fits true files sizes = bundleLength (take files sizes) ≤ 1073741824
-Fits false files sizes = Unit {0}
+abbrev pub AllFit : Bool → ℕ → List ℕ → Type 0
+AllFit true files sizes = bundleLength (take files sizes) ≤ 1073741824
+AllFit false files sizes = Unit {0}
 
 -- writing has come to that many bytes of the bundle, or was stopped before
-abbrev pub Reaches : Place → ℕ → Type 0
-Reaches (At end) n = end ≡ n
-Reaches Stopped n = Unit {0}
+abbrev pub WritesTo : Place → ℕ → Type 0
+WritesTo (At end) n = end ≡ n
+WritesTo Stopped n = Unit {0}
 
 -- the whole bundle of the first so many sizes is written, and is within the limit; or writing was stopped
 abbrev pub Packed : Place → ℕ → List ℕ → Type 0

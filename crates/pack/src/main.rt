@@ -10,7 +10,7 @@ ghost use Prim.Native.Nat.{_+_, _≤_, _<_};
 ghost use mathlib.Core.Path.{_≡_};
 ghost use lib.ListN.{length, take, getD};
 ghost use Rattle.bundle.specs.Front.{frontOf, bundleLength};
-ghost use Rattle.pack.specs.Sizes.{Counted, Readied, Fits, Reaches, Packed};
+ghost use Rattle.pack.specs.Sizes.{WithinLimit, Readied, AllFit, WritesTo, Packed};
 
 // The bytes that a bundle may have.
 const LIMIT: u64 = 1073741824;
@@ -18,7 +18,7 @@ const LIMIT: u64 = 1073741824;
 // What counting a file found: its bytes, that the bundle would be too long, or that it can't be read.
 enum Size {
     Bytes(u64),
-    Over,
+    TooLong,
     Unread,
 }
 
@@ -37,7 +37,7 @@ enum Place {
 // Counts the bytes of a file that begins at a place of the bundle.
 fn count_bytes(fd: i32, from: u64, buf: &mut [u8]) -> Size
     requires { ⌜ from ≤ 1073741830 ⌝ }
-    ensures { λ r. ⌜ Counted r from ⌝ }
+    ensures { λ r. ⌜ WithinLimit r from ⌝ }
 {
     let mut end = from;
     while end <= LIMIT {
@@ -51,7 +51,7 @@ fn count_bytes(fd: i32, from: u64, buf: &mut [u8]) -> Size
         }
         end += n as u64;
     }
-    Size::Over
+    Size::TooLong
 }
 
 // Counts the bytes of an open file of that name and goes back to its start; says why where it can't.
@@ -68,7 +68,7 @@ fn ready(fd: i32, path: &[u8], from: u64, buf: &mut [u8]) -> File
             }
             File::Ready(fd, n as u32)
         }
-        Size::Over => {
+        Size::TooLong => {
             io::write_all(STDERR_FILENO, path);
             io::write_all(
                 STDERR_FILENO,
@@ -105,7 +105,7 @@ fn prepare(i: usize, from: u64, buf: &mut [u8]) -> File
 // Makes the files of the arguments 1 to so many ready, with their descriptors and bytes; answers whether all are.
 fn open_all(files: usize, fds: &mut [i32], sizes: &mut [u32], buf: &mut [u8]) -> bool
     requires { ⌜ (files ≤ length (now fds)) × (files ≤ length (now sizes)) ⌝ }
-    ensures { λ r. ⌜ Fits r files (now (sizes .exit)) ⌝ }
+    ensures { λ r. ⌜ AllFit r files (now (sizes .exit)) ⌝ }
 {
     let mut end = 0;
     let mut k = 0;
@@ -164,7 +164,7 @@ fn pass_some(fd: i32, most: u64, buf: &mut [u8]) -> u64
 // Copies so many bytes of a file to standard output, from a place of the bundle on; answers where that ends.
 fn copy(fd: i32, at: u64, size: u32, buf: &mut [u8]) -> Place
     requires { ⌜ at ≤ 1073741830 ⌝ }
-    ensures { λ r. ⌜ Reaches r (at + size) ⌝ }
+    ensures { λ r. ⌜ WritesTo r (at + size) ⌝ }
 {
     let end = at + size as u64;
     let mut here = at;
@@ -189,7 +189,7 @@ fn head(sizes: &[u32], k: usize) -> [u8; 6]
 // Writes six bytes at a place of the bundle, which have to be those in front of file k; answers where they end.
 fn put_head(six: &[u8; 6], sizes: &[u32], k: usize, at: u64) -> Place
     requires { ⌜ (now six ≡ frontOf (getD (now sizes) k 0)) × (at ≡ bundleLength (take k (now sizes))) × (at ≤ 1073741824) ⌝ }
-    ensures { λ r. ⌜ Reaches r (at + 6) ⌝ }
+    ensures { λ r. ⌜ WritesTo r (at + 6) ⌝ }
 {
     if !io::write_all(STDOUT_FILENO, six) {
         os::fail(b"standard output");
@@ -201,7 +201,7 @@ fn put_head(six: &[u8; 6], sizes: &[u32], k: usize, at: u64) -> Place
 // Writes the record of file k at a place of the bundle; answers where it ends.
 fn write_record(fd: i32, sizes: &[u32], k: usize, at: u64, buf: &mut [u8]) -> Place
     requires { ⌜ (k < length (now sizes)) × (at ≡ bundleLength (take k (now sizes))) × (at ≤ 1073741824) ⌝ }
-    ensures { λ r. ⌜ Reaches r (bundleLength (take (k + 1) (now (sizes .entry)))) ⌝ }
+    ensures { λ r. ⌜ WritesTo r (bundleLength (take (k + 1) (now (sizes .entry)))) ⌝ }
 {
     let six = head(sizes, k);
     let Place::At(from) = put_head(&six, sizes, k, at) else {
@@ -213,7 +213,7 @@ fn write_record(fd: i32, sizes: &[u32], k: usize, at: u64, buf: &mut [u8]) -> Pl
 // Writes the records of the first so many files, up to one that can't be written whole; answers where they end.
 fn write_records(files: usize, fds: &[i32], sizes: &[u32], buf: &mut [u8]) -> Place
     requires { ⌜ (files ≤ length (now fds)) × (files ≤ length (now sizes)) × (bundleLength (take files (now sizes)) ≤ 1073741824) ⌝ }
-    ensures { λ r. ⌜ Reaches r (bundleLength (take files (now (sizes .entry)))) ⌝ }
+    ensures { λ r. ⌜ WritesTo r (bundleLength (take files (now (sizes .entry)))) ⌝ }
 {
     let mut at = 0;
     let mut k = 0;

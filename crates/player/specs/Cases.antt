@@ -44,15 +44,15 @@ unfolding computed otherScale
 other-timescale = refl
 
 -- a track whose first sample has flags of its own
-unfoldable pub flagged : ℕ → List ℕ
-flagged flags = header ++ moofOf 0 (run 0x4 112 (in4 flags)) ++ boxed mdat (zeros 30)
+unfoldable pub firstFlagged : ℕ → List ℕ
+firstFlagged flags = header ++ moofOf 0 (run 0x4 112 (in4 flags)) ++ boxed mdat (zeros 30)
 
-pub sync-first : play (flagged 0x2000000 ∷ []) (0 ∷ []) ≡ passed (0 ∷ 180000 ∷ [])
-unfolding computed flagged
+pub sync-first : play (firstFlagged 0x2000000 ∷ []) (0 ∷ []) ≡ passed (0 ∷ 180000 ∷ [])
+unfolding computed firstFlagged
 sync-first = refl
 
-pub non-sync-first : play (flagged 0x1010000 ∷ []) (0 ∷ []) ≡ stuck
-unfolding computed flagged
+pub non-sync-first : play (firstFlagged 0x1010000 ∷ []) (0 ∷ []) ≡ stuck
+unfolding computed firstFlagged
 non-sync-first = refl
 
 -- an unset clock takes any start; a set clock must be the `tfdt`
@@ -99,16 +99,16 @@ unfolding computed single
 sample-inside-refused = refl
 
 -- a run without an offset: two samples, sizes 10 and 20
-unfoldable pub bare : List ℕ
-bare = boxed trun (in4 0x300 ++ in4 2 ++ in4 90000 ++ in4 10 ++ in4 90000 ++ in4 20)
+unfoldable pub bareRun : List ℕ
+bareRun = boxed trun (in4 0x300 ++ in4 2 ++ in4 90000 ++ in4 10 ++ in4 90000 ++ in4 20)
 
 -- after another run it begins where that one ended; as the first it begins at the `moof` start
-pub later-run-bare : play ((header ++ moofOf 0 (run 0 140 [] ++ bare) ++ boxed mdat (zeros 60)) ∷ []) (0 ∷ []) ≡ passed (0 ∷ 360000 ∷ [])
-unfolding computed bare
+pub later-run-bare : play ((header ++ moofOf 0 (run 0 140 [] ++ bareRun) ++ boxed mdat (zeros 60)) ∷ []) (0 ∷ []) ≡ passed (0 ∷ 360000 ∷ [])
+unfolding computed bareRun
 later-run-bare = refl
 
-pub first-run-bare : play ((header ++ moofOf 0 bare ++ boxed mdat (zeros 30)) ∷ []) (0 ∷ []) ≡ stuck
-unfolding computed bare
+pub first-run-bare : play ((header ++ moofOf 0 bareRun ++ boxed mdat (zeros 30)) ∷ []) (0 ∷ []) ≡ stuck
+unfolding computed bareRun
 first-run-bare = refl
 
 -- tracks that break one of rules 1 to 18: 4 (the last byte cut off), 6 (a box between `moof` and `mdat`), 10 (timescale 0), 12 (handler
@@ -161,8 +161,8 @@ unfolding computed
 set-accepted = refl
 
 -- a non-sync first sample is refused under 21
-pub non-sync-refused : ruling (flagged 0x1010000) ≡ Breaks 21 0 556
-unfolding computed flagged
+pub non-sync-refused : ruling (firstFlagged 0x1010000) ≡ Breaks 21 0 556
+unfolding computed firstFlagged
 non-sync-refused = refl
 
 -- what a caller sees of the bundle of T twice, over a table of four nines

@@ -20,6 +20,6 @@ pub fn answer(input: &[u8], out: &mut [u8; TEXT_ROOM]) -> usize
         return lines::over_line(INPUT_LIMIT as u64, out);
     }
     let mut table = [0u64; TABLE_ROOM];
-    let v = set::check(input, &mut table);
-    lines::set_lines(bundle::tracks(input), v, &table, out)
+    let v = set::set_job(input, &mut table);
+    lines::set_lines(bundle::count_tracks(input), v, &table, out)
 }

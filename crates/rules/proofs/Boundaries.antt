@@ -10,7 +10,7 @@ use borrow.Author.Tests.{eqb-true}
 use Rattle.rules.specs.Rules.{_then_}
 use Rattle.rules.specs.Boxes.{headOf, sizeOf, whole}
 use Rattle.rules.specs.Fragment.{startOf, tfdtIn, firstRun, syncIn, follows, rule19, rule20, rule21, rule22, timing}
-use Rattle.rules.specs.Track.{ruling, rulesOfFragments, headerOf, fragments, fragmentCount, mdatAt, shapeAt, timingAt, startAt, endAt, lastEnd, ticks, boundaries}
+use Rattle.rules.specs.Track.{ruling, rulesOfFragments, headerOf, fragments, fragmentCount, mdatAt, shapeAt, timingAt, startAt, endAt, lastEnd, endList, ticks, boundaries}
 use Rattle.rules.specs.Player.{Piece, fedAt, pieceAt}
 use Rattle.rules.specs.Plans.{All}
 use Rattle.rules.specs.declared.Previous.{Previous}
@@ -23,18 +23,18 @@ use Rattle.rules.proofs.Tiling.{fed-at}
 use Rattle.rules.proofs.Sound.{accepted-keeps}
 
 -- fragments that run from a start over the ends given, as many as there are ends: each from the last end, sync and fed
-abbrev pub Tiles : List Piece → ℕ → List ℕ → Type 0
-Tiles ps a [] = Unit {0}
-Tiles [] a (b ∷ bs) = ⊥
-Tiles (p ∷ ps) a (b ∷ bs) = (p .from ≡ a) × (p .to ≡ b) × (p .sync ≡ true) × (p .fed ≡ true) × Tiles ps b bs
+abbrev pub TilesFrom : List Piece → ℕ → List ℕ → Type 0
+TilesFrom ps a [] = Unit {0}
+TilesFrom [] a (b ∷ bs) = ⊥
+TilesFrom (p ∷ ps) a (b ∷ bs) = (p .from ≡ a) × (p .to ≡ b) × (p .sync ≡ true) × (p .fed ≡ true) × TilesFrom ps b bs
 
 -- the same over boundaries: the start, then the ends
 abbrev pub Tiled : List Piece → List ℕ → Type 0
 Tiled ps [] = Unit {0}
-Tiled ps (a ∷ bs) = Tiles ps a bs
+Tiled ps (a ∷ bs) = TilesFrom ps a bs
 
 -- fragments over fewer ends
-pub tiles-fewer : (ps : List Piece) (a : ℕ) (bs : List ℕ) (n : ℕ) → Tiles ps a bs → Tiles ps a (take n bs)
+pub tiles-fewer : (ps : List Piece) (a : ℕ) (bs : List ℕ) (n : ℕ) → TilesFrom ps a bs → TilesFrom ps a (take n bs)
 tiles-fewer ps a bs zero h = tt
 tiles-fewer ps a [] (suc n) h = tt
 tiles-fewer [] a (b ∷ bs) (suc n) h = absurd h
@@ -86,7 +86,7 @@ module _ (s : List ℕ) (h : Header) (prev : Previous) (x : ℕ) (xs : List ℕ)
 
 -- fragments after an end that their rules accept
 later : (s : List ℕ) (h : Header) (e : ℕ) (xs : List ℕ) → rulesOfFragments s h (End e) xs ≡ Holds
-    → All (DataBox s) xs → Tiles (map (pieceAt s h) xs) e (map (endAt s h) xs)
+    → All (DataBox s) xs → TilesFrom (map (pieceAt s h) xs) e (map (endAt s h) xs)
 unfolding pieceAt
 later s h e [] r b = tt
 later s h e (x ∷ xs) r b =
@@ -100,7 +100,7 @@ later s h e (x ∷ xs) r b =
 
 -- the starts of fragments after one at x, and the last end, are the ends from x on
 later-ticks : (s : List ℕ) (h : Header) (x : ℕ) (xs : List ℕ) → rulesOfFragments s h (End (endAt s h x)) xs ≡ Holds
-    → map (startAt s) xs ++ (lastEnd s h x xs ∷ []) ≡ endAt s h x ∷ map (endAt s h) xs
+    → map (startAt s) xs ++ endList (lastEnd s h (End (endAt s h x)) xs) ≡ endAt s h x ∷ map (endAt s h) xs
 unfolding lastEnd
 later-ticks s h x [] r = refl
 later-ticks s h x (y ∷ ys) r =
@@ -111,7 +111,7 @@ later-ticks s h x (y ∷ ys) r =
 -- the fragments of a track that their rules accept, the first of them where it likes
 tiled-from : (s : List ℕ) (h : Header) (xs : List ℕ) → rulesOfFragments s h Unset xs ≡ Holds → All (DataBox s) xs
     → Tiled (map (pieceAt s h) xs) (ticks s h xs)
-unfolding ticks pieceAt
+unfolding ticks lastEnd pieceAt
 tiled-from s h [] r b = tt
 tiled-from s h (x ∷ xs) r b =
     let t = first-timed s h Unset x xs r in
@@ -134,12 +134,17 @@ unfolding boundaries
 tiled s r = tiled-from s (headerOf s) (fragments s) (accepted-keeps s r .1) (boxed-data s r)
 
 -- there is one boundary more than there are fragments
+one-end : (s : List ℕ) (h : Header) (e : ℕ) (xs : List ℕ) → length (endList (lastEnd s h (End e) xs)) ≡ 1
+unfolding lastEnd
+one-end s h e [] = refl
+one-end s h e (x ∷ xs) = one-end s h (endAt s h x) xs
+
 some-ticks : (s : List ℕ) (h : Header) (x : ℕ) (xs : List ℕ) → length (ticks s h (x ∷ xs)) ≡ suc (suc (length xs))
-unfolding ticks
+unfolding ticks lastEnd
 some-ticks s h x xs =
-    let e = length-append (map (startAt s) (x ∷ xs)) (lastEnd s h x xs ∷ []) in
+    let e = length-append (map (startAt s) (x ∷ xs)) (endList (lastEnd s h (End (endAt s h x)) xs)) in
     let n = length-map (x ∷ xs) (startAt s) in
-    e ∙ omega (arith, n)
+    e ∙ omega (arith, n, one-end s h (endAt s h x) xs)
 
 ticks-length : (s : List ℕ) (h : Header) (xs : List ℕ) → 1 ≤ length xs → length (ticks s h xs) ≡ suc (length xs)
 ticks-length s h [] l = absurd (not-suc-le-zero l)
@@ -152,7 +157,7 @@ boundaries-length s l = ticks-length s (headerOf s) (fragments s) l
 -- tracks of as many fragments have as many boundaries
 same-length : (s₁ s₂ : List ℕ) (h₁ h₂ : Header) (xs ys : List ℕ) → length xs ≡ length ys
     → length (ticks s₁ h₁ xs) ≡ length (ticks s₂ h₂ ys)
-unfolding ticks
+unfolding ticks lastEnd
 same-length s₁ s₂ h₁ h₂ [] [] e = refl
 same-length s₁ s₂ h₁ h₂ [] (y ∷ ys) e = let z : ⊥ = omega (arith, e) in absurd z
 same-length s₁ s₂ h₁ h₂ (x ∷ xs) [] e = let z : ⊥ = omega (arith, e) in absurd z

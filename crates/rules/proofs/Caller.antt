@@ -26,8 +26,8 @@ use Rattle.rules.proofs.SecondHalf.{stays, names-a-track, second-half}
 
 -- what an outcome of the set job with at least one fragment counted says: the bundle is accepted, the count is track 0's number
 -- of fragments, and the table begins with its boundaries
-abbrev Accepted : List ℕ → List ℕ → Outcome → Type 0
-Accepted b t o =
+abbrev AcceptedSet : List ℕ → List ℕ → Outcome → Type 0
+AcceptedSet b t o =
     (bundleRuling b ≡ Holds)
     × (o .verdict .number ≡ 0)
     × (o .verdict .count ≡ fragmentCount (track0 (tracks b)))
@@ -35,7 +35,7 @@ Accepted b t o =
 
 -- an outcome with what no refusal has is an acceptance
 accepts : (b t : List ℕ) (has : Outcome → Type 0) → ((n k p : ℕ) → 1 ≤ n → has (refused n k p t) → ⊥) → has (setOutcome b t)
-    → Accepted b t (setOutcome b t)
+    → AcceptedSet b t (setOutcome b t)
 unfolding setOutcome roomFor accepted
 accepts b t has no-refusal h = go (bundleRuling b) refl h
   where
@@ -47,21 +47,21 @@ accepts b t has no-refusal h = go (bundleRuling b) refl h
 
     room : (w : Bool) → bundleRuling b ≡ Holds
         → has (when w (refused 23 0 0 t) (accepted (fragmentCount s₀) (timescale s₀) (boundaries s₀) t))
-        → Accepted b t (when w (refused 23 0 0 t) (accepted (fragmentCount s₀) (timescale s₀) (boundaries s₀) t))
+        → AcceptedSet b t (when w (refused 23 0 0 t) (accepted (fragmentCount s₀) (timescale s₀) (boundaries s₀) t))
     room true e y = absurd (no-refusal 23 0 0 (omega arith) y)
     room false e y = (e, refl, refl, refl)
 
-    go : (r : Rule) → bundleRuling b ≡ r → has (f r) → Accepted b t (f r)
+    go : (r : Rule) → bundleRuling b ≡ r → has (f r) → AcceptedSet b t (f r)
     go Holds e y = room (ltb (length t) (length (boundaries s₀))) e y
     go (Breaks n k p) e y = absurd (no-refusal n k p (never-0 b n k p e) y)
 
 -- a count of at least one is an acceptance: a refusal counts none
-pub counted : (b t : List ℕ) → 1 ≤ setOutcome b t .verdict .count → Accepted b t (setOutcome b t)
+pub count-accepts : (b t : List ℕ) → 1 ≤ setOutcome b t .verdict .count → AcceptedSet b t (setOutcome b t)
 unfolding refused
-counted b t h = accepts b t (λ o. 1 ≤ o .verdict .count) (λ n k p l y. let z : ⊥ = omega (arith, y) in z) h
+count-accepts b t h = accepts b t (λ o. 1 ≤ o .verdict .count) (λ n k p l y. let z : ⊥ = omega (arith, y) in z) h
 
 -- a verdict of number 0 is an acceptance: no refusal has that number
-pub zero-accepts : (b t : List ℕ) → setOutcome b t .verdict .number ≡ 0 → Accepted b t (setOutcome b t)
+pub zero-accepts : (b t : List ℕ) → setOutcome b t .verdict .number ≡ 0 → AcceptedSet b t (setOutcome b t)
 unfolding refused
 zero-accepts b t h = accepts b t (λ o. o .verdict .number ≡ 0) (λ n k p l y. let z : ⊥ = omega (arith, l, y) in z) h
 
@@ -91,7 +91,7 @@ pub caller : (b t : List ℕ) (o : Outcome) → o ≡ setOutcome b t → (plan :
 caller b t o e plan h l a =
     let s₀ = track0 (tracks b) in
     let m : o .verdict .count ≡ setOutcome b t .verdict .count = ap (λ (q : Outcome). q .verdict .count) e in
-    let c = counted b t (omega (arith, h, l, m)) in
+    let c = count-accepts b t (omega (arith, h, l, m)) in
     let n : fragmentCount s₀ ≡ o .verdict .count = sym (m ∙ c .2) in
     let w : length (boundaries s₀) ≡ suc (fragmentCount s₀) = boundaries-length s₀ (omega (arith, h, l, n)) in
     let u : take (length plan + 1) (boundaries s₀) ≡ take (length plan + 1) (boundaries s₀ ++ drop (length (boundaries s₀)) t) =
@@ -128,7 +128,7 @@ pub caller-plan : (b t : List ℕ) (o : Outcome) → o ≡ setOutcome b t → (p
     → All (λ i. i < length (tracks b)) plan → Plan (tracks b) plan
 caller-plan b t o e plan h l a =
     let m : o .verdict .count ≡ setOutcome b t .verdict .count = ap (λ (q : Outcome). q .verdict .count) e in
-    let c = counted b t (omega (arith, h, l, m)) in
+    let c = count-accepts b t (omega (arith, h, l, m)) in
     ((h, a), omega (arith, l, m, c .2))
 
 -- an outcome with a number of a set is a refusal of the bundle, with the track that it names

@@ -42,8 +42,8 @@ stuck-on-all-fails player d f =
 shorter : List (List ℕ)
 shorter = trackT ∷ single 0 108 30 ∷ []
 
-later : List (List ℕ)
-later = trackT ∷ shifted ∷ []
+shifted-set : List (List ℕ)
+shifted-set = trackT ∷ shifted ∷ []
 
 -- never stuck: a player that passes every plan over a set's tracks fails the second half under 27, whatever it does on other plans
 pub never-stuck-fails : (player : Player) → ((ss : List (List ℕ)) (plan : List ℕ) → Over ss plan → player ss plan ≡ stuck → ⊥)
@@ -62,22 +62,22 @@ never-stuck-fails player d f = go (f shorter 1 630 (T-accepted, (single-accepted
 -- whatever it does on other plans, as on one that names no track
 pub blind-fails : (player : Player) → (ticks : List (List ℕ) → ℕ → List ℕ)
     → ((ss : List (List ℕ)) (plan : List ℕ) → Over ss plan → player ss plan ≡ passed (ticks ss (length plan))) → HasSecondHalf player → ⊥
-unfolding later
-blind-fails player ticks d f = go (f later 1 492 (T-accepted, (shifted-accepted, tt)) ((refl, refl), (shifted-alike, tt)) (inr set-28))
+unfolding shifted-set
+blind-fails player ticks d f = go (f shifted-set 1 492 (T-accepted, (shifted-accepted, tt)) ((refl, refl), (shifted-alike, tt)) (inr set-28))
   where
-    passes : (plan : List ℕ) → Over later plan → player later plan ≡ stuck → ⊥
-    passes plan o e = subst Passes (sym (d later plan o) ∙ e) tt
+    passes : (plan : List ℕ) → Over shifted-set plan → player shifted-set plan ≡ stuck → ⊥
+    passes plan o e = subst Passes (sym (d shifted-set plan o) ∙ e) tt
 
-    by : (one other : List ℕ) → Over later one → Over later other → length one ≡ length other
-        → OneStuck (player later one) (player later other) ⊎ TicksDiffer (player later one) (player later other) → ⊥
+    by : (one other : List ℕ) → Over shifted-set one → Over shifted-set other → length one ≡ length other
+        → OneStuck (player shifted-set one) (player shifted-set other) ⊎ TicksDiffer (player shifted-set one) (player shifted-set other) → ⊥
     by one other u v l (inl (inl h)) = passes other v (h .2)
     by one other u v l (inl (inr h)) = passes one u (h .1)
     by one other u v l (inr h) =
-        let same : player later one ≡ player later other =
-        d later one u ∙ ap (λ (n : ℕ). passed (ticks later n)) l ∙ sym (d later other v) in
+        let same : player shifted-set one ≡ player shifted-set other =
+        d shifted-set one u ∙ ap (λ (n : ℕ). passed (ticks shifted-set n)) l ∙ sym (d shifted-set other v) in
         h .4 (passed-same (h .0) (h .1) (sym (h .2) ∙ same ∙ h .3))
 
-    go : (one : List ℕ) × (other : List ℕ) × ToldApart player later one other → ⊥
+    go : (one : List ℕ) × (other : List ℕ) × ToldApart player shifted-set one other → ⊥
     go h = by (h .0) (h .1) (h .2 .0 .0) (h .2 .0 .1) (h .2 .0 .2) (h .2 .1)
 
 -- so the table of track 0 by itself is no player, though it has the first half

@@ -19,8 +19,8 @@ use Rattle.rules.proofs.Boundaries.{boundaries-length, as-many}
 use Rattle.rules.proofs.Plays.{Passes, Chooses, alike-plays}
 
 -- an accepted track that is like another: the same timescale, as many fragments, the same boundaries
-abbrev pub Alike : List ℕ → List ℕ → Type 0
-Alike s₀ s =
+abbrev pub LikeFirst : List ℕ → List ℕ → Type 0
+LikeFirst s₀ s =
     (ruling s ≡ Holds) × (timescale s ≡ timescale s₀) × (fragmentCount s ≡ fragmentCount s₀) × (boundaries s ≡ boundaries s₀)
 
 -- rule 28 over lists of one length: they are one list
@@ -42,7 +42,7 @@ unfolding same
 same-value n value place s₀ s h = eqb-true (value s) (value s₀) (must-holds _ _ _ h)
 
 -- 25 to 28 make tracks alike
-agrees-alike : (s₀ s : List ℕ) → ruling s ≡ Holds → agrees s₀ s ≡ Holds → Alike s₀ s
+agrees-alike : (s₀ s : List ℕ) → ruling s ≡ Holds → agrees s₀ s ≡ Holds → LikeFirst s₀ s
 unfolding agrees rule28
 agrees-alike s₀ s r h =
     let of26 = same 26 timescale mdhdAt s₀ s in
@@ -66,7 +66,7 @@ each-ruling k (s ∷ ss) h = (
 )
 
 -- tracks accepted, each beside track 0
-each-agrees : (s₀ : List ℕ) (k : ℕ) (ss : List (List ℕ)) → Singly ss → agree s₀ k ss ≡ Holds → All (Alike s₀) ss
+each-agrees : (s₀ : List ℕ) (k : ℕ) (ss : List (List ℕ)) → Singly ss → agree s₀ k ss ≡ Holds → All (LikeFirst s₀) ss
 unfolding agree
 each-agrees s₀ k [] r h = tt
 each-agrees s₀ k (s ∷ ss) r h = (
@@ -75,7 +75,7 @@ each-agrees s₀ k (s ∷ ss) r h = (
 )
 
 -- every track of an accepted set is like its track 0
-pub all-alike : (ss : List (List ℕ)) → setRuling ss ≡ Holds → All (Alike (track0 ss)) ss
+pub all-alike : (ss : List (List ℕ)) → setRuling ss ≡ Holds → All (LikeFirst (track0 ss)) ss
 unfolding setRuling
 all-alike [] h = tt
 all-alike (s ∷ ss) h =
@@ -87,7 +87,7 @@ chooses : (ss : List (List ℕ)) → setRuling ss ≡ Holds → (i : ℕ) → i 
     → Chooses ss (timescale (track0 ss)) (boundaries (track0 ss)) i
 chooses ss h i l =
     let n = below ss i l in
-    let a = all-at (Alike (track0 ss)) ss i (n .0) (all-alike ss h) (n .1) in
+    let a = all-at (LikeFirst (track0 ss)) ss i (n .0) (all-alike ss h) (n .1) in
     (n .0, n .1, a .0, a .1, a .3)
 
 -- the first half: every plan of an accepted set plays, and passes the first (length of plan + 1) boundaries of track 0

@@ -7,7 +7,7 @@ use Prim.Native.Nat.{ℕ, zero, suc, _+_, _-_, _<_, _≤_}
 use native.Mathlib.Omega.{arith}
 use lib.ListN.{length, length-take, length-drop}
 use lib.Dec.{ltb, eqb}
-use borrow.Author.Tests.{ltb-false, eq-eqb}
+use borrow.Author.Tests.{ltb-false, eq-eqb, eqb-true}
 use Rattle.numbers.specs.Numbers.{be4, be8, when}
 use Rattle.rules.specs.Counts.{wanted, again, seenFrom}
 use Rattle.rules.specs.declared.Entry.{Entry}
@@ -15,13 +15,13 @@ use Rattle.rules.specs.Boxes.{part, sized, lookAt, look, onLook, inside,
 use Rattle.rules.specs.declared.Path.{Path}
 use Rattle.rules.specs.declared.Path.the-variants.{Flat}
 use Rattle.rules.specs.declared.Inside.{Inside}
-use Rattle.rules.specs.declared.Inside.the-variants.{Leaf, Holds}
+use Rattle.rules.specs.declared.Inside.the-variants.{Leaf, Container}
 use Rattle.rules.specs.declared.Look.{Look}
-use Rattle.rules.specs.declared.Look.the-variants.{Nothing, Short, Small, Beyond, Header}
+use Rattle.rules.specs.declared.Look.the-variants.{Nothing, Short, Small, Beyond, Good}
 use Rattle.rules.specs.declared.Seen.{Seen}
 
 -- what a framed header of h bytes, size z and type k at a place tells
-pub record Found (s : List ℕ) (at h z k : ℕ) : Type 0 where
+pub record FoundBox (s : List ℕ) (at h z k : ℕ) : Type 0 where
   pub head : headOf s at ≡ h
   pub size : sizeOf s at ≡ z
   pub kind : kindOf s at ≡ k
@@ -39,20 +39,21 @@ record Sized (left h z k h′ z′ k′ : ℕ) : Type 0 where
   holds : h ≤ z
   fits : z ≤ left
 
-no : {A : Type 0} → _≡_ {A = ℕ} 0 1 → A
-no e = let f : ⊥ = omega arith in absurd f
+-- two constructors are never equal
+pub never : {A : Type 0} → _≡_ {A = ℕ} 0 1 → A
+never e = let f : ⊥ = omega arith in absurd f
 
-sized-good : (left h z k h′ z′ k′ : ℕ) → sized left h z k ≡ Header h′ z′ k′ → Sized left h z k h′ z′ k′
+sized-good : (left h z k h′ z′ k′ : ℕ) → sized left h z k ≡ Good h′ z′ k′ → Sized left h z k h′ z′ k′
 unfolding sized
 sized-good left h z k h′ z′ k′ = by (ltb z h) (ltb left z) refl refl
   where
-    by : (t u : Bool) → ltb z h ≡ t → ltb left z ≡ u → when t Small (when u Beyond (Header h z k)) ≡ Header h′ z′ k′ → Sized left h z k h′ z′ k′
-    by true u p q e = no (cc)
-    by false true p q e = no (cc)
+    by : (t u : Bool) → ltb z h ≡ t → ltb left z ≡ u → when t Small (when u Beyond (Good h z k)) ≡ Good h′ z′ k′ → Sized left h z k h′ z′ k′
+    by true u p q e = never (cc)
+    by false true p q e = never (cc)
     by false false p q e =
         record { head = cc; size = cc; kind = cc; holds = ltb-false z h p; fits = ltb-false left z q }
 
-pub look-found : (s : List ℕ) (at h z k : ℕ) → look s at ≡ Header h z k → Found s at h z k
+pub look-found : (s : List ℕ) (at h z k : ℕ) → look s at ≡ Good h z k → FoundBox s at h z k
 unfolding look lookAt headOf sizeOf
 look-found s at h z k = by (eqb left 0) (ltb left 8) (eqb (be4 s at) 1) (ltb left 16) refl refl refl refl
   where
@@ -62,11 +63,11 @@ look-found s at h z k = by (eqb left 0) (ltb left 8) (eqb (be4 s at) 1) (ltb lef
     by :
         (a b o w : Bool) → eqb left 0 ≡ a → ltb left 8 ≡ b → eqb (be4 s at) 1 ≡ o → ltb left 16 ≡ w →
         when a Nothing (when b Short (when o (when w Short (sized left 16 (be8 s (at + 8)) (be4 s (at + 4)))) (sized left 8 (be4 s at) (be4 s (at + 4)))))
-        ≡ Header h z k →
-        Found s at h z k
-    by true b o w pa pb po pw e = no (cc)
-    by false true o w pa pb po pw e = no (cc)
-    by false false true true pa pb po pw e = no (cc)
+        ≡ Good h z k →
+        FoundBox s at h z k
+    by true b o w pa pb po pw e = never (cc)
+    by false true o w pa pb po pw e = never (cc)
+    by false false true true pa pb po pw e = never (cc)
     by false false true false pa pb po pw e =
         let g : Sized left 16 (be8 s (at + 8)) (be4 s (at + 4)) h z k = sized-good left 16 (be8 s (at + 8)) (be4 s (at + 4)) h z k e in
         record {
@@ -97,6 +98,35 @@ pub look-nothing : (s : List ℕ) (at : ℕ) → length s ≤ at → look s at �
 unfolding look lookAt
 look-nothing s at h = simp (eq-eqb (length s - at) 0 (omega arith))
 
+-- a header that says a size is never nothing
+sized-some : (left h z k : ℕ) → sized left h z k ≡ Nothing → ⊥
+unfolding sized
+sized-some left h z k = by (ltb z h) (ltb left z)
+  where
+    by : (t u : Bool) → when t Small (when u Beyond (Good h z k)) ≡ Nothing → ⊥
+    by true u e = never (cc)
+    by false true e = never (cc)
+    by false false e = never (cc)
+
+-- where bytes remain something stands
+pub nothing-left : (s : List ℕ) (at : ℕ) → look s at ≡ Nothing → length s ≤ at
+unfolding look lookAt
+nothing-left s at = by (eqb left 0) (ltb left 8) (eqb (be4 s at) 1) (ltb left 16) refl
+  where
+    left : ℕ
+    left = length s - at
+
+    by :
+        (a b o w : Bool) → eqb left 0 ≡ a →
+        when a Nothing (when b Short (when o (when w Short (sized left 16 (be8 s (at + 8)) (be4 s (at + 4)))) (sized left 8 (be4 s at) (be4 s (at + 4)))))
+        ≡ Nothing →
+        length s ≤ at
+    by true b o w p e = omega (arith, eqb-true left 0 p)
+    by false true o w p e = never (cc)
+    by false false true true p e = never (cc)
+    by false false true false p e = absurd (sized-some left 16 (be8 s (at + 8)) (be4 s (at + 4)) e)
+    by false false false w p e = absurd (sized-some left 8 (be4 s at) (be4 s (at + 4)) e)
+
 -- a part is at most as long as what is left
 part-left : (s : List ℕ) (a n : ℕ) → length (part s a n) ≤ length s - a
 part-left s a n = simp (length-take, length-drop) (omega arith)
@@ -113,7 +143,7 @@ sprout g r p s at l =
 -- equal insides, whichever way they are grown
 within-same : (g r : Path → List ℕ → Forest) (i : Inside) (t : List ℕ) → ((q : Path) → g q t ≡ r q t) → within g i t ≡ within r i t
 within-same g r Leaf t e = refl
-within-same g r (Holds q) t e = e q
+within-same g r (Container q) t e = e q
 
 -- forests that agree on what is inside a box and on what is after it make equal forests
 sprout-same :
@@ -125,8 +155,8 @@ sprout-same g r a b p s at i n Nothing e = refl
 sprout-same g r a b p s at i n Short e = refl
 sprout-same g r a b p s at i n Small e = refl
 sprout-same g r a b p s at i n Beyond e = refl
-sprout-same g r a b p s at i n (Header h z k) e =
-    let d : Found s at h z k = look-found s at h z k e in
+sprout-same g r a b p s at i n (Good h z k) e =
+    let d : FoundBox s at h z k = look-found s at h z k e in
     let t : List ℕ = part s (at + h) (z - h) in
     let x : within g (inside p k) t ≡ within r (inside p k) t =
     within-same g r (inside p k) t (λ q. i q t (omega (arith, part-left s (at + h) (z - h)))) in
@@ -179,12 +209,12 @@ module _ (p : Path) (s : List ℕ) (at : ℕ) where
   forest-beyond = forest-by p s at Beyond
 
   pub forest-box :
-      (h z k : ℕ) → look s at ≡ Header h z k →
+      (h z k : ℕ) → look s at ≡ Good h z k →
       forest p s at
       ≡ node (record { at = at; inner = h; size = z; kind = k })
       (within (λ q t. forest q t 0) (inside p k) (part s (at + h) (z - h)))
       (forest p s (at + z))
-  forest-box h z k = forest-by p s at (Header h z k)
+  forest-box h z k = forest-by p s at (Good h z k)
 
 -- the sibling boxes by what stands at the place
 pub boxes-by : (s : List ℕ) (at : ℕ) (l : Look) → look s at ≡ l → boxes s at ≡ onLook l [] (λ n. []) (λ h z k. record { at = at; inner = h; size = z; kind = k } ∷ boxes s (at + z))
@@ -193,7 +223,7 @@ boxes-by s at Nothing e = ap tops (forest-by Flat s at Nothing e)
 boxes-by s at Short e = ap tops (forest-by Flat s at Short e)
 boxes-by s at Small e = ap tops (forest-by Flat s at Small e)
 boxes-by s at Beyond e = ap tops (forest-by Flat s at Beyond e)
-boxes-by s at (Header h z k) e = ap tops (forest-by Flat s at (Header h z k) e)
+boxes-by s at (Good h z k) e = ap tops (forest-by Flat s at (Good h z k) e)
 
 module _ (s : List ℕ) (at : ℕ) where
   pub boxes-nothing : look s at ≡ Nothing → boxes s at ≡ []
@@ -208,15 +238,15 @@ module _ (s : List ℕ) (at : ℕ) where
   pub boxes-beyond : look s at ≡ Beyond → boxes s at ≡ []
   boxes-beyond = boxes-by s at Beyond
 
-  pub boxes-box : (h z k : ℕ) → look s at ≡ Header h z k → boxes s at ≡ record { at = at; inner = h; size = z; kind = k } ∷ boxes s (at + z)
-  boxes-box h z k = boxes-by s at (Header h z k)
+  pub boxes-box : (h z k : ℕ) → look s at ≡ Good h z k → boxes s at ≡ record { at = at; inner = h; size = z; kind = k } ∷ boxes s (at + z)
+  boxes-box h z k = boxes-by s at (Good h z k)
 
   -- a box that is wanted, and one that is not, among the places of a type
-  pub places-hit : (h z k : ℕ) → look s at ≡ Header h z k → placesOf k (boxes s at) ≡ at ∷ placesOf k (boxes s (at + z))
+  pub places-hit : (h z k : ℕ) → look s at ≡ Good h z k → placesOf k (boxes s at) ≡ at ∷ placesOf k (boxes s (at + z))
   unfolding placesOf
   places-hit h z k e = ap (placesOf k) (boxes-box h z k e) ∙ simp (eq-eqb k k refl)
 
-  pub places-miss : (w h z k : ℕ) → look s at ≡ Header h z k → eqb k w ≡ false → placesOf w (boxes s at) ≡ placesOf w (boxes s (at + z))
+  pub places-miss : (w h z k : ℕ) → look s at ≡ Good h z k → eqb k w ≡ false → placesOf w (boxes s at) ≡ placesOf w (boxes s (at + z))
   unfolding placesOf
   places-miss w h z k e n = ap (placesOf w) (boxes-box h z k e) ∙ simp n
 
@@ -226,7 +256,7 @@ module _ (s : List ℕ) (at : ℕ) where
 
   -- one box more seen
   pub seen-box :
-      (v : Seen) (w : Entry) (h z k : ℕ) → look s at ≡ Header h z k →
+      (v : Seen) (w : Entry) (h z k : ℕ) → look s at ≡ Good h z k →
       seenFrom v w (boxes s at) ≡ seenFrom (when (wanted w k) (again at v) v) w (boxes s (at + z))
   unfolding seenFrom
   seen-box v w h z k e = ap (seenFrom v w) (boxes-box h z k e)

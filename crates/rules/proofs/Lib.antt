@@ -3,18 +3,14 @@ pub mod Members
 pub mod Then
 pub mod Forest
 pub mod Walk
-pub mod Front
-pub mod Append
-pub mod AppendFraming
-pub mod AppendOrder
-pub mod AppendHeader
-pub mod AppendTrack
-pub mod Cut
+pub mod FirstSeen
+pub mod OnePass
 pub mod Samples
 pub mod Stuck
 pub mod Tiling
 pub mod Misframed
 pub mod Jobs
+pub mod Untracked
 pub mod Numbered
 pub mod NumbersOfTrack
 pub mod Refusals
@@ -26,4 +22,3 @@ pub mod Steps
 pub mod SecondHalf
 pub mod Caller
 pub mod Dummies
-pub mod AppendRuling

@@ -13,9 +13,9 @@ use Rattle.rules.specs.Framing.{onFraming, rule5, framing, framed}
 use Rattle.rules.specs.declared.Path.{Path}
 use Rattle.rules.specs.declared.Path.the-variants.{Top}
 use Rattle.rules.specs.declared.Inside.{Inside}
-use Rattle.rules.specs.declared.Inside.the-variants.{Leaf, Holds}
+use Rattle.rules.specs.declared.Inside.the-variants.{Leaf, Container}
 use Rattle.rules.specs.declared.Look.{Look}
-use Rattle.rules.specs.declared.Look.the-variants.{Nothing, Short, Small, Beyond, Header}
+use Rattle.rules.specs.declared.Look.the-variants.{Nothing, Short, Small, Beyond, Good}
 use Rattle.rules.specs.declared.Framing.{Framing}
 use Rattle.rules.specs.declared.Framing.the-variants.{Framed, Misframed}
 use Rattle.rules.proofs.Forest.{sprout}
@@ -26,27 +26,27 @@ FramingNumbered (Framed n) = Unit {0}
 FramingNumbered (Misframed k p) = member k framingNumbers ≡ true
 
 -- every broken header of a forest hands on a number of framing
-abbrev Headed : Forest → Type 0
-Headed end = Unit {0}
-Headed (bad n p) = member n framingNumbers ≡ true
-Headed (node x i r) = Headed i × Headed r
+abbrev HeadersNumbered : Forest → Type 0
+HeadersNumbered end = Unit {0}
+HeadersNumbered (bad n p) = member n framingNumbers ≡ true
+HeadersNumbered (node x i r) = HeadersNumbered i × HeadersNumbered r
 
-headed : (f : ℕ) (p : Path) (s : List ℕ) (at : ℕ) → Headed (grow f p s at)
+headed : (f : ℕ) (p : Path) (s : List ℕ) (at : ℕ) → HeadersNumbered (grow f p s at)
 unfolding grow member
 headed zero p s at = tt
 headed (suc f) p s at = go (look s at) (λ q t a. headed f q t a)
   where
-    inner : (i : Inside) (t : List ℕ) → ((q : Path) (t : List ℕ) (a : ℕ) → Headed (grow f q t a)) → Headed (within (λ q t. grow f q t 0) i t)
+    inner : (i : Inside) (t : List ℕ) → ((q : Path) (t : List ℕ) (a : ℕ) → HeadersNumbered (grow f q t a)) → HeadersNumbered (within (λ q t. grow f q t 0) i t)
     inner Leaf t g = tt
-    inner (Holds q) t g = g q t 0
+    inner (Container q) t g = g q t 0
 
-    go : (l : Look) → ((q : Path) (t : List ℕ) (a : ℕ) → Headed (grow f q t a))
-        → Headed (sprout (λ q t. grow f q t 0) (grow f p s) p s at l)
+    go : (l : Look) → ((q : Path) (t : List ℕ) (a : ℕ) → HeadersNumbered (grow f q t a))
+        → HeadersNumbered (sprout (λ q t. grow f q t 0) (grow f p s) p s at l)
     go Nothing g = tt
     go Short g = refl
     go Small g = refl
     go Beyond g = refl
-    go (Header h z k) g = (inner (inside p k) (part s (at + h) (z - h)) g, g p s (at + z))
+    go (Good h z k) g = (inner (inside p k) (part s (at + h) (z - h)) g, g p s (at + z))
 
 by-5 : (n place : ℕ) (r : Framing) → FramingNumbered r → FramingNumbered (rule5 n place r)
 unfolding rule5 member
@@ -56,7 +56,7 @@ by-5 n place r h = go (leb boxLimit n)
     go true = refl
     go false = h
 
-by-forest : (t : Forest) (base n : ℕ) → Headed t → FramingNumbered (framing t base n)
+by-forest : (t : Forest) (base n : ℕ) → HeadersNumbered t → FramingNumbered (framing t base n)
 unfolding framing
 by-forest end base n h = tt
 by-forest (bad k p) base n h = by-5 n (base + p) (Misframed k (base + p)) h

@@ -103,8 +103,8 @@ unfolding body
 n-body n f m at w = n-must _ n at w
 
 -- a number that isn't one of a rule's own comes from what follows it
-pub passes : (ns : List ℕ) (r q : Rule) (n k p : ℕ) → Numbered ns r → member n ns ≡ false → r then q ≡ Breaks n k p
+pub passes-on : (ns : List ℕ) (r q : Rule) (n k p : ℕ) → Numbered ns r → member n ns ≡ false → r then q ≡ Breaks n k p
     → (r ≡ Holds) × (q ≡ Breaks n k p)
 unfolding _then_
-passes ns Holds q n k p h f e = (refl, e)
-passes ns (Breaks a b c) q n k p h f e = absurd (not-both n ns (h .told n k p e) f)
+passes-on ns Holds q n k p h f e = (refl, e)
+passes-on ns (Breaks a b c) q n k p h f e = absurd (not-both n ns (h .told n k p e) f)

@@ -15,28 +15,28 @@ use Rattle.rules.specs.Player.{Piece, Stream, State, pieceAt, rulesBefor
 use Rattle.rules.specs.Plans.{All}
 use Rattle.rules.specs.declared.Rule.the-variants.{Holds}
 use Rattle.rules.proofs.Laws.{all-map, beyond, drop-first, drop-rest, map-at, map-none}
-use Rattle.rules.proofs.Boundaries.{Tiles, Tiled, tiles-fewer, tiled, boundaries-length}
+use Rattle.rules.proofs.Boundaries.{TilesFrom, Tiled, tiles-fewer, tiled, boundaries-length}
 use Rattle.rules.proofs.Stuck.{step-goes, play-step, play-stuck, plan-stuck, play-is-stuck, went-through}
 use Rattle.rules.proofs.Sound.{sound}
 
 -- a track that fits: the rules before timing hold, this timescale, and from the k-th on fragments from a start over these ends
-abbrev pub Fits : ℕ → ℕ → ℕ → List ℕ → Stream → Type 0
-Fits scale k a bs t = (t .sound ≡ true) × (t .scale ≡ scale) × Tiles (drop k (t .pieces)) a bs
+abbrev pub StreamFits : ℕ → ℕ → ℕ → List ℕ → Stream → Type 0
+StreamFits scale k a bs t = (t .sound ≡ true) × (t .scale ≡ scale) × TilesFrom (drop k (t .pieces)) a bs
 
 -- the k-th fragment of a track that fits, and the track after it
-next-piece : (ps : List Piece) (k a b : ℕ) (bs : List ℕ) → Tiles (drop k ps) a (b ∷ bs)
-    → (p : Piece) × (getElem? ps k ≡ some p) × (p .from ≡ a) × (p .to ≡ b) × (p .sync ≡ true) × (p .fed ≡ true) × Tiles (drop (k + 1) ps) b bs
+next-piece : (ps : List Piece) (k a b : ℕ) (bs : List ℕ) → TilesFrom (drop k ps) a (b ∷ bs)
+    → (p : Piece) × (getElem? ps k ≡ some p) × (p .from ≡ a) × (p .to ≡ b) × (p .sync ≡ true) × (p .fed ≡ true) × TilesFrom (drop (k + 1) ps) b bs
 next-piece ps k a b bs h = go (drop k ps) refl h
   where
-    go : (qs : List Piece) → drop k ps ≡ qs → Tiles qs a (b ∷ bs)
-        → (p : Piece) × (getElem? ps k ≡ some p) × (p .from ≡ a) × (p .to ≡ b) × (p .sync ≡ true) × (p .fed ≡ true) × Tiles (drop (k + 1) ps) b bs
+    go : (qs : List Piece) → drop k ps ≡ qs → TilesFrom qs a (b ∷ bs)
+        → (p : Piece) × (getElem? ps k ≡ some p) × (p .from ≡ a) × (p .to ≡ b) × (p .sync ≡ true) × (p .fed ≡ true) × TilesFrom (drop (k + 1) ps) b bs
     go [] e y = absurd y
     go (q ∷ qs) e y =
         (q, drop-first ps k q qs e, y .0, y .1, y .2, y .3, rw (add-one k, drop-rest ps k q qs e) (y .4))
 
 -- a choice that names a track that fits
 abbrev Named : List Stream → ℕ → ℕ → ℕ → List ℕ → ℕ → Type 0
-Named ts scale k a bs i = (t : Stream) × (getElem? ts i ≡ some t) × Fits scale k a bs t
+Named ts scale k a bs i = (t : Stream) × (getElem? ts i ≡ some t) × StreamFits scale k a bs t
 
 -- the same choice one fragment later
 named-later : (ts : List Stream) (scale k a b : ℕ) (bs : List ℕ) (i : ℕ) → Named ts scale k a (b ∷ bs) i → Named ts scale (k + 1) b bs i
@@ -50,9 +50,9 @@ unfolding goes
 fits-goes g t p scale a h₁ h₂ h₃ h₄ h₅ h₆ h₇ = rw (h₁, h₂, h₃, h₄, h₅, h₆, h₇)
 
 -- a set number fits itself
-same : (x : ℕ) → fits (some x) x ≡ true
+fits-itself : (x : ℕ) → fits (some x) x ≡ true
 unfolding fits
-same x = eq-eqb x x refl
+fits-itself x = eq-eqb x x refl
 
 -- from a state on: a plan whose named tracks fit the ends runs, and passes them
 runs : (ts : List Stream) (scale : ℕ) (plan bs : List ℕ) (a : ℕ) (g : State) → length plan ≡ length bs
@@ -68,7 +68,7 @@ runs ts scale (i ∷ plan) (b ∷ bs) a g l f c n =
     let p = y .0 in
     let w = fits-goes g t p scale a (n .0 .2 .0) (n .0 .2 .1) (y .2) (y .4) (y .5) f c in
     let r : playFrom ts (after g t p) plan ≡ passed bs =
-    runs ts scale plan bs b (after g t p) (omega (arith, l)) (rw (n .0 .2 .1) (same scale)) (rw (y .3) (same b))
+    runs ts scale plan bs b (after g t p) (omega (arith, l)) (rw (n .0 .2 .1) (fits-itself scale)) (rw (y .3) (fits-itself b))
     (all-map (Named ts scale (g .number) a (b ∷ bs)) (Named ts scale (g .number + 1) b bs) plan
     (named-later ts scale (g .number) a b bs) (n .1)) in
     play-step ts g i plan t p (n .0 .1) (step-goes g t p (y .1) w)
@@ -171,9 +171,9 @@ all-stay P zero i h = tt
 all-stay P (suc n) i h = (h, all-stay P n i h)
 
 -- an accepted track plays through by itself, and passes its boundaries
-pub alone : (ss : List (List ℕ)) (i : ℕ) (s : List ℕ) → getElem? ss i ≡ some s → ruling s ≡ Holds → 1 ≤ fragmentCount s
+pub plays-alone : (ss : List (List ℕ)) (i : ℕ) (s : List ℕ) → getElem? ss i ≡ some s → ruling s ≡ Holds → 1 ≤ fragmentCount s
     → play ss (replicate (fragmentCount s) i) ≡ passed (boundaries s)
-alone ss i s e r h =
+plays-alone ss i s e r h =
     let n = fragmentCount s in
     let l : length (replicate n i) ≡ n = length-replicate n i in
     let b : length (boundaries s) ≡ suc n = boundaries-length s h in

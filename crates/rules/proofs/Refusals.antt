@@ -24,7 +24,7 @@ use Rattle.rules.specs.declared.Rule.the-variants.{Holds, Breaks}
 use Rattle.rules.proofs.Jobs.{zero-accepts}
 use Rattle.rules.proofs.Members.{member-among, member-apart, not-both}
 use Rattle.rules.proofs.Misframed.{FramingNumbered, framing-numbered}
-use Rattle.rules.proofs.Numbered.{Numbered, Told, of-told, wider, n-then, n-must, n-holds, n-track, passes}
+use Rattle.rules.proofs.Numbered.{Numbered, Told, of-told, wider, n-then, n-must, n-holds, n-track, passes-on}
 use Rattle.rules.proofs.NumbersOfTrack.{n-length, n-ruling}
 
 -- a set
@@ -83,9 +83,9 @@ unfolding bundleRuling setRuling apart member
 refused-as-set b n k p m h =
     let rest = agree (track0 (tracks b)) 1 (drop 1 (tracks b)) in
     let other : (ns : List ℕ) → apart setNumbers ns ≡ true → member n ns ≡ false = λ ns a. member-apart n setNumbers ns m a in
-    let e₁ = passes lengthNumbers (rule1 (length b)) (rule24 b then setRuling (tracks b)) n k p (n-length (length b)) (other lengthNumbers refl) h in
-    let e₂ = passes recordNumbers (rule24 b) (setRuling (tracks b)) n k p (n-records b) (other recordNumbers refl) (e₁ .1) in
-    let e₃ = passes trackNumbers (rulings 0 (tracks b)) rest n k p (n-rulings 0 (tracks b)) (other trackNumbers refl) (e₂ .1) in
+    let e₁ = passes-on lengthNumbers (rule1 (length b)) (rule24 b then setRuling (tracks b)) n k p (n-length (length b)) (other lengthNumbers refl) h in
+    let e₂ = passes-on recordNumbers (rule24 b) (setRuling (tracks b)) n k p (n-records b) (other recordNumbers refl) (e₁ .1) in
+    let e₃ = passes-on trackNumbers (rulings 0 (tracks b)) rest n k p (n-rulings 0 (tracks b)) (other trackNumbers refl) (e₂ .1) in
     (e₃ .0, e₂ .1)
 
 -- no rule is left but room: the acceptance, or 23

@@ -24,31 +24,31 @@ abbrev pub OfSample : Type 1
 OfSample = ℤ → ℕ → ℕ → Type 0
 
 -- the i-th sample of a run whose samples begin at `start`, where the run's next byte is at `next`
-abbrev pub At : OfSample → List ℕ → Defaults → ℕ → ℤ → ℕ → ℕ → Type 0
-At q m d r start next i = q (start +ℤ pos (sumTo (bytesOf m d r) i)) (next + sumTo (bytesOf m d r) i) (bytesOf m d r i)
+abbrev pub SampleAt : OfSample → List ℕ → Defaults → ℕ → ℤ → ℕ → ℕ → Type 0
+SampleAt q m d r start next i = q (start +ℤ pos (sumTo (bytesOf m d r) i)) (next + sumTo (bytesOf m d r) i) (bytesOf m d r i)
 
 -- every sample of runs, and some sample of them
 abbrev pub EverySample : OfSample → ℕ → List ℕ → Defaults → ℤ → ℕ → List ℕ → Type 0
 EverySample q x m d before next [] = Unit {0}
 EverySample q x m d before next (r ∷ rs) =
-    ((i : ℕ) → i < countOf m r → At q m d r (runStart x m before r) next i)
+    ((i : ℕ) → i < countOf m r → SampleAt q m d r (runStart x m before r) next i)
     × EverySample q x m d (runStart x m before r +ℤ pos (runBytes m d r)) (next + runBytes m d r) rs
 
 abbrev pub SomeSample : OfSample → ℕ → List ℕ → Defaults → ℤ → ℕ → List ℕ → Type 0
 SomeSample q x m d before next [] = ⊥
 SomeSample q x m d before next (r ∷ rs) =
-    ((i : ℕ) × (i < countOf m r) × At q m d r (runStart x m before r) next i)
+    ((i : ℕ) × (i < countOf m r) × SampleAt q m d r (runStart x m before r) next i)
     ⊎ SomeSample q x m d (runStart x m before r +ℤ pos (runBytes m d r)) (next + runBytes m d r) rs
 
 -- its bytes are the next ones and end inside the data box; they aren't the next ones; they end past the data box
-abbrev pub Whole : ℕ → OfSample
-Whole till place next size = (place ≡ pos next) × (next + size ≤ till)
+abbrev pub WholeSample : ℕ → OfSample
+WholeSample till place next size = (place ≡ pos next) × (next + size ≤ till)
 
 abbrev pub NotNext : OfSample
 NotNext place next size = place ≡ pos next → ⊥
 
-abbrev pub Past : ℕ → OfSample
-Past till place next size = till < next + size
+abbrev pub PastTill : ℕ → OfSample
+PastTill till place next size = till < next + size
 
 -- in plain numbers: its bytes begin at a place at or behind `from`, end at or before `till`, and `till` is inside `len` bytes
 abbrev pub Lies : ℕ → ℕ → ℕ → OfSample
@@ -73,7 +73,7 @@ module _ (m : List ℕ) (d : Defaults) (r : ℕ) (start : ℤ) (next till : ℕ)
   inside i = leb (next + sumTo (bytesOf m d r) (suc i)) till
 
   -- and where it holds every sample is
-  whole-run : (n : ℕ) → samplesFed m d r start next till n ≡ true → (i : ℕ) → i < n → At (Whole till) m d r start next i
+  whole-run : (n : ℕ) → samplesFed m d r start next till n ≡ true → (i : ℕ) → i < n → SampleAt (WholeSample till) m d r start next i
   unfolding samplesFed sumTo here inside
   whole-run zero h i l = absurd (not-suc-le-zero l)
   whole-run (suc n) h i l = go (ℕ-discrete i n) (whole-run n (and-first (samplesFed m d r start next till n) (here n) both) i)
@@ -81,7 +81,7 @@ module _ (m : List ℕ) (d : Defaults) (r : ℕ) (start : ℤ) (next till : ℕ)
       both : (samplesFed m d r start next till n && here n) ≡ true
       both = and-first (samplesFed m d r start next till n && here n) (inside n) h
 
-      last : At (Whole till) m d r start next n
+      last : SampleAt (WholeSample till) m d r start next n
       last = (
         place-is (start +ℤ pos (sumTo (bytesOf m d r) n)) (next + sumTo (bytesOf m d r) n)
             (and-second (samplesFed m d r start next till n) (here n) both),
@@ -92,12 +92,12 @@ module _ (m : List ℕ) (d : Defaults) (r : ℕ) (start : ℤ) (next till : ℕ)
         ),
       )
 
-      go : Dec (i ≡ n) → (i < n → At (Whole till) m d r start next i) → At (Whole till) m d r start next i
+      go : Dec (i ≡ n) → (i < n → SampleAt (WholeSample till) m d r start next i) → SampleAt (WholeSample till) m d r start next i
       go (yes e) f = rw e last
       go (no e) f = f (omega (arith, e))
 
   -- where every sample of a run is whole the player's test holds
-  run-whole : (n : ℕ) → ((i : ℕ) → i < n → At (Whole till) m d r start next i) → samplesFed m d r start next till n ≡ true
+  run-whole : (n : ℕ) → ((i : ℕ) → i < n → SampleAt (WholeSample till) m d r start next i) → samplesFed m d r start next till n ≡ true
   unfolding samplesFed sumTo here inside
   run-whole zero f = refl
   run-whole (suc n) f =
@@ -109,7 +109,7 @@ module _ (m : List ℕ) (d : Defaults) (r : ℕ) (start : ℤ) (next till : ℕ)
 
 -- the player's test of runs holds exactly where every sample is whole
 pub every-fed : (x : ℕ) (m : List ℕ) (d : Defaults) (before : ℤ) (next till : ℕ) (rs : List ℕ)
-    → EverySample (Whole till) x m d before next rs → runsFed x m d before next till rs ≡ true
+    → EverySample (WholeSample till) x m d before next rs → runsFed x m d before next till rs ≡ true
 unfolding runsFed
 every-fed x m d before next till [] h = refl
 every-fed x m d before next till (r ∷ rs) h =
@@ -119,7 +119,7 @@ every-fed x m d before next till (r ∷ rs) h =
     (every-fed x m d (start +ℤ pos (runBytes m d r)) (next + runBytes m d r) till rs (h .1))
 
 pub fed-every : (x : ℕ) (m : List ℕ) (d : Defaults) (before : ℤ) (next till : ℕ) (rs : List ℕ)
-    → runsFed x m d before next till rs ≡ true → EverySample (Whole till) x m d before next rs
+    → runsFed x m d before next till rs ≡ true → EverySample (WholeSample till) x m d before next rs
 unfolding runsFed
 fed-every x m d before next till [] h = tt
 fed-every x m d before next till (r ∷ rs) h =
@@ -158,26 +158,26 @@ SomeOf q s x =
     SomeSample q x (whole s x) (defaultsIn (whole s x) (headerOf s .defaults)) (pos x) (payloadAt s x) (runsIn (whole s x))
 
 -- a fragment feeds the player exactly where each of its samples is whole
-pub fragment-fed : (s : List ℕ) (x : ℕ) → EachOf (Whole (mdatEnd s x)) s x → fedAt s (headerOf s) x ≡ true
+pub fragment-fed : (s : List ℕ) (x : ℕ) → EachOf (WholeSample (mdatEnd s x)) s x → fedAt s (headerOf s) x ≡ true
 unfolding fedAt
 fragment-fed s x h =
     every-fed x (whole s x) (defaultsIn (whole s x) (headerOf s .defaults)) (pos x) (payloadAt s x) (mdatEnd s x) (runsIn (whole s x)) h
 
-pub samples-whole : (s : List ℕ) (x : ℕ) → fedAt s (headerOf s) x ≡ true → EachOf (Whole (mdatEnd s x)) s x
+pub samples-whole : (s : List ℕ) (x : ℕ) → fedAt s (headerOf s) x ≡ true → EachOf (WholeSample (mdatEnd s x)) s x
 unfolding fedAt
 samples-whole s x h =
     fed-every x (whole s x) (defaultsIn (whole s x) (headerOf s .defaults)) (pos x) (payloadAt s x) (mdatEnd s x) (runsIn (whole s x)) h
 
 -- samples that are whole, the next byte being behind `from`, lie between it and the data box's end
 lying : (from till len : ℕ) → till ≤ len → (x : ℕ) (m : List ℕ) (d : Defaults) (before : ℤ) (next : ℕ) (rs : List ℕ) → from ≤ next
-    → EverySample (Whole till) x m d before next rs → EverySample (Lies from till len) x m d before next rs
+    → EverySample (WholeSample till) x m d before next rs → EverySample (Lies from till len) x m d before next rs
 lying from till len u x m d before next [] l h = tt
 lying from till len u x m d before next (r ∷ rs) l h = (
   λ i j. let w = h .0 i j in (next + sumTo (bytesOf m d r) i, w .0, omega (arith, l), w .1, u),
   lying from till len u x m d (runStart x m before r +ℤ pos (runBytes m d r)) (next + runBytes m d r) rs (omega (arith, l)) (h .1),
 )
 
-pub samples-lie : (s : List ℕ) (x : ℕ) → mdatEnd s x ≤ length s → EachOf (Whole (mdatEnd s x)) s x
+pub samples-lie : (s : List ℕ) (x : ℕ) → mdatEnd s x ≤ length s → EachOf (WholeSample (mdatEnd s x)) s x
     → EachOf (Lies (payloadAt s x) (mdatEnd s x) (length s)) s x
 samples-lie s x u h =
     lying (payloadAt s x) (mdatEnd s x) (length s) u x (whole s x) (defaultsIn (whole s x) (headerOf s .defaults)) (pos x) (payloadAt s x)
@@ -185,12 +185,12 @@ samples-lie s x u h =
 
 -- a sample that is not whole leaves the player unfed
 pub unfed : (w : OfSample) (s : List ℕ) (x : ℕ)
-    → ((place : ℤ) (next size : ℕ) → Whole (mdatEnd s x) place next size → w place next size → ⊥)
+    → ((place : ℤ) (next size : ℕ) → WholeSample (mdatEnd s x) place next size → w place next size → ⊥)
     → SomeOf w s x → fedAt s (headerOf s) x ≡ false
 unfed w s x f h = go (fedAt s (headerOf s) x) refl
   where
     go : (t : Bool) → fedAt s (headerOf s) x ≡ t → t ≡ false
     go false e = refl
     go true e =
-        absurd (clash (Whole (mdatEnd s x)) w f x (whole s x) (defaultsIn (whole s x) (headerOf s .defaults)) (pos x) (payloadAt s x)
+        absurd (clash (WholeSample (mdatEnd s x)) w f x (whole s x) (defaultsIn (whole s x) (headerOf s .defaults)) (pos x) (payloadAt s x)
         (runsIn (whole s x)) (samples-whole s x e) h)

@@ -20,15 +20,15 @@ use Rattle.rules.specs.declared.Rule.the-variants.{Holds, Breaks}
 use Rattle.rules.proofs.Laws.{all-at, is-below}
 use Rattle.rules.proofs.Then.{then-holds, must-true}
 use Rattle.rules.proofs.Boundaries.{a-fragment}
-use Rattle.rules.proofs.Plays.{all-stay, alone, too-long}
+use Rattle.rules.proofs.Plays.{all-stay, plays-alone, too-long}
 
 -- a refusal with this number, track and place
 abbrev pub Refusal : Rule → ℕ → ℕ → ℕ → Type 0
 Refusal Holds n t p = ⊥
 Refusal (Breaks a b c) n t p = (a ≡ n) × (b ≡ t) × (c ≡ p)
 
-pub refusal : (r : Rule) (n t p : ℕ) → r ≡ Breaks n t p → Refusal r n t p
-refusal r n t p e = subst (λ (q : Rule). Refusal q n t p) (sym e) (refl, refl, refl)
+pub is-refusal : (r : Rule) (n t p : ℕ) → r ≡ Breaks n t p → Refusal r n t p
+is-refusal r n t p e = subst (λ (q : Rule). Refusal q n t p) (sym e) (refl, refl, refl)
 
 -- how a track differs from track 0, by the number of its refusal
 pub data Difference (s₀ s : List ℕ) (n : ℕ) : Type 0 where
@@ -105,10 +105,10 @@ pub told-apart : (ss : List (List ℕ)) (n k p : ℕ) → Singly ss → setRulin
     → (s : List ℕ) × (getElem? ss 0 ≡ some (track0 ss)) × (getElem? ss k ≡ some s) × Difference (track0 ss) s n
 unfolding setRuling agree
 told-apart [] n k p a h =
-    absurd (refusal Holds n k p (sym (then-holds Holds (all-hold 0 [] tt)) ∙ h))
+    absurd (is-refusal Holds n k p (sym (then-holds Holds (all-hold 0 [] tt)) ∙ h))
 told-apart (s₀ ∷ ss) n k p a h =
     let q = named s₀ 1 ss n k p
-    (refusal (agree s₀ 1 ss) n k p (sym (then-holds (agree s₀ 1 ss) (all-hold 0 (s₀ ∷ ss) a)) ∙ h)) in
+    (is-refusal (agree s₀ 1 ss) n k p (sym (then-holds (agree s₀ 1 ss) (all-hold 0 (s₀ ∷ ss) a)) ∙ h)) in
     let e : k ≡ suc (q .0) = omega (arith, q .2) in
     (q .1, refl, ap (λ (i : ℕ). getElem? (s₀ ∷ ss) i) e ∙ q .3, q .4)
 
@@ -141,7 +141,7 @@ stays-on P ss k i h = all-stay P (max (fragmentCount (track0 ss)) (fragmentCount
 -- as long a plan as a track has fragments runs through
 through : (ss : List (List ℕ)) → Singly ss → (i : ℕ) (s : List ℕ) (n : ℕ) → getElem? ss i ≡ some s → 1 ≤ n
     → n ≡ fragmentCount s → play ss (replicate n i) ≡ passed (boundaries s)
-through ss a i s n e l q = rw q (alone ss i s e (all-at (λ t. ruling t ≡ Holds) ss i s a e) (omega (arith, l, q)))
+through ss a i s n e l q = rw q (plays-alone ss i s e (all-at (λ t. ruling t ≡ Holds) ss i s a e) (omega (arith, l, q)))
 
 module _ (ss : List (List ℕ)) (n k p : ℕ) (a : Singly ss) (h : setRuling ss ≡ Breaks n k p) where
   -- the track that the refusal names, and how it differs from track 0

@@ -20,13 +20,13 @@ use Rattle.rules.specs.declared.Rule.the-variants.{Holds, Breaks}
 use Rattle.rules.specs.declared.Header.{Header}
 use Rattle.rules.proofs.Then.{then-both, both-hold, then-under}
 use Rattle.rules.proofs.Members.{member-apart}
-use Rattle.rules.proofs.Numbered.{Numbered, wider, n-then, n-holds, passes}
+use Rattle.rules.proofs.Numbered.{Numbered, wider, n-then, n-holds, passes-on}
 use Rattle.rules.proofs.NumbersOfTrack.{n-front, n-shape-at, n-timing-at}
 use Rattle.rules.proofs.Stuck.{stuck-broken-rule, plan-stuck, play-is-stuck}
 
 -- each group of the rules before timing holds of a track: its length, framing, order and header, and the shape of every fragment
-abbrev pub Keeps : List ℕ → Type 0
-Keeps s =
+abbrev pub GroupsHold : List ℕ → Type 0
+GroupsHold s =
     (rule1 (length s) ≡ Holds)
     × (rulesOfFraming s ≡ Holds)
     × (rule6 s ≡ Holds)
@@ -45,14 +45,14 @@ each-shape s h [] e = tt
 each-shape s h (x ∷ xs) e = let y = then-both (shapeAt s h x) (shapes s h xs) e in (y .0, each-shape s h xs (y .1))
 
 -- where each group holds, the rules before timing do
-pub keeps-hold : (s : List ℕ) → Keeps s → rulesBeforeTiming s ≡ Holds
+pub keeps-hold : (s : List ℕ) → GroupsHold s → rulesBeforeTiming s ≡ Holds
 unfolding rulesBeforeTiming
 keeps-hold s k =
     let f = shapes-hold s (headerOf s) (fragments s) (k .4) in
     search (both-hold, k .0, k .1, k .2, k .3, f) depth 10
 
 -- and where they do, each group holds: the player is blind to none of them
-pub hold-keeps : (s : List ℕ) → rulesBeforeTiming s ≡ Holds → Keeps s
+pub hold-keeps : (s : List ℕ) → rulesBeforeTiming s ≡ Holds → GroupsHold s
 unfolding rulesBeforeTiming
 hold-keeps s e =
     let f = shapes s (headerOf s) (fragments s) in
@@ -72,7 +72,7 @@ shaped s h prev (x ∷ xs) r =
     (y .0, shaped s h (End (endAt s h x)) xs (then-both (timingAt s h prev x) rest (y .1) .1))
 
 -- what an accepted track keeps: each group of the rules before timing, and the rules of its fragments
-pub accepted-keeps : (s : List ℕ) → ruling s ≡ Holds → Keeps s × (rulesOfFragments s (headerOf s) Unset (fragments s) ≡ Holds)
+pub accepted-keeps : (s : List ℕ) → ruling s ≡ Holds → GroupsHold s × (rulesOfFragments s (headerOf s) Unset (fragments s) ≡ Holds)
 unfolding ruling
 accepted-keeps s e =
     let f = rulesOfFragments s (headerOf s) Unset (fragments s) in
@@ -95,7 +95,7 @@ shape-refused s h prev (x ∷ xs) n t p l e =
     let rest = rulesOfFragments s h (End (endAt s h x)) xs in
     then-under (shapeAt s h x) (timingAt s h prev x then rest) (shapes s h xs) n t p
     (λ y. shape-refused s h (End (endAt s h x)) xs n t p l
-    (passes timingNumbers (timingAt s h prev x) rest n t p (n-timing-at s h prev x) (member-apart n metNumbers timingNumbers l refl) y .1)) e
+    (passes-on timingNumbers (timingAt s h prev x) rest n t p (n-timing-at s h prev x) (member-apart n metNumbers timingNumbers l refl) y .1)) e
 
 -- a track refused under a number that the player meets: it meets the same refusal
 pub refused-alike : (s : List ℕ) (n t p : ℕ) → member n metNumbers ≡ true → ruling s ≡ Breaks n t p → rulesBeforeTiming s ≡ Breaks n t p
@@ -117,7 +117,7 @@ pub play-stuck-refused : (ss : List (List ℕ)) (i : ℕ) (plan s : List ℕ) (n
 play-stuck-refused ss i plan s n t p a l e = play-is-stuck ss i plan (plan-stuck ss begin i plan s a (stuck-refused begin s n t p l e))
 
 -- so is every step on a track of which one group fails, though an earlier refusal of its timing may be the one that a verdict gives
-pub stuck-unkept : (g : State) (s : List ℕ) → (Keeps s → ⊥) → stepOn g (streamOf s) ≡ none
+pub stuck-unkept : (g : State) (s : List ℕ) → (GroupsHold s → ⊥) → stepOn g (streamOf s) ≡ none
 stuck-unkept g s f = go (rulesBeforeTiming s) refl
   where
     go : (r : Rule) → rulesBeforeTiming s ≡ r → stepOn g (streamOf s) ≡ none

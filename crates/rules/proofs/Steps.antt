@@ -17,16 +17,16 @@ use Rattle.rules.specs.Plans.{Plan}
 use Rattle.rules.specs.declared.Rule.the-variants.{Holds}
 use Rattle.rules.proofs.Laws.{all-at, below, is-below, map-at}
 use Rattle.rules.proofs.Walk.{DataBox}
-use Rattle.rules.proofs.Boundaries.{Tiles, Tiled, boxed-data, tiled, boundaries-length}
-use Rattle.rules.proofs.Samples.{EachOf, Whole, Lies, payloadAt, mdatEnd, samples-whole, samples-lie}
-use Rattle.rules.proofs.FirstHalf.{Alike, all-alike}
+use Rattle.rules.proofs.Boundaries.{TilesFrom, Tiled, boxed-data, tiled, boundaries-length}
+use Rattle.rules.proofs.Samples.{EachOf, WholeSample, Lies, payloadAt, mdatEnd, samples-whole, samples-lie}
+use Rattle.rules.proofs.FirstHalf.{LikeFirst, all-alike}
 
 -- the step of number j of a plan takes the fragment at x of the track s: it chooses s, and x is the place of its j-th fragment
 abbrev pub Takes : List (List ℕ) → List ℕ → ℕ → List ℕ → ℕ → Type 0
 Takes ss plan j s x = (i : ℕ) × (getElem? plan j ≡ some i) × (getElem? ss i ≡ some s) × (getElem? (fragments s) j ≡ some x)
 
 -- the j-th of fragments that run from boundary to boundary
-tiles-at : (ps : List Piece) (a : ℕ) (bs : List ℕ) (j : ℕ) (p : Piece) → Tiles ps a bs → j < length bs → getElem? ps j ≡ some p
+tiles-at : (ps : List Piece) (a : ℕ) (bs : List ℕ) (j : ℕ) (p : Piece) → TilesFrom ps a bs → j < length bs → getElem? ps j ≡ some p
     → (p .from ≡ getD (a ∷ bs) j 0) × (p .to ≡ getD bs j 0) × (p .sync ≡ true) × (p .fed ≡ true)
 tiles-at ps a [] j p t l e = absurd (not-suc-le-zero l)
 tiles-at [] a (b ∷ bs) j p t l e = absurd t
@@ -65,8 +65,8 @@ module _ (ss : List (List ℕ)) (plan : List ℕ) (h : setRuling ss ≡ Holds) (
   ticked = take (length plan + 1) (boundaries (track0 ss))
 
   -- a track of the set is like its track 0
-  like : (i : ℕ) (s : List ℕ) → getElem? ss i ≡ some s → Alike (track0 ss) s
-  like i s e = all-at (Alike (track0 ss)) ss i s (all-alike ss h) e
+  like : (i : ℕ) (s : List ℕ) → getElem? ss i ≡ some s → LikeFirst (track0 ss) s
+  like i s e = all-at (LikeFirst (track0 ss)) ss i s (all-alike ss h) e
 
   -- no fragment is missing: each step of the plan takes a fragment
   pub no-fragment-missing : (j : ℕ) → j < length plan → (s : List ℕ) × (x : ℕ) × Takes ss plan j s x
@@ -107,7 +107,7 @@ module _ (ss : List (List ℕ)) (plan : List ℕ) (h : setRuling ss ≡ Holds) (
     own-data-box = all-at (DataBox s) (fragments s) j x (boxed-data s (like (t .0) s (t .2) .0)) (t .3)
 
     -- each sample comes whole from its own fragment's data box, the next bytes each time
-    pub samples-whole-and-next : EachOf (Whole (mdatEnd s x)) s x
+    pub samples-whole-and-next : EachOf (WholeSample (mdatEnd s x)) s x
     samples-whole-and-next = samples-whole s x (told .3)
 
     -- so, in plain numbers, each sample of each run: its bytes begin at or behind the first byte of its data box's payload and end at or

@@ -14,7 +14,7 @@ use Rattle.rules.specs.Player.{Piece, Stream, State, fedAt, pieceAt, rul
 use Rattle.rules.specs.declared.Rule.{Rule}
 use Rattle.rules.specs.declared.Rule.the-variants.{Holds, Breaks}
 use Rattle.rules.proofs.Laws.{no-and, all-on, each-on, beyond, map-at, map-none}
-use Rattle.rules.proofs.Samples.{EachOf, SomeOf, Whole, NotNext, Past, mdatEnd, fragment-fed, samples-whole, unfed}
+use Rattle.rules.proofs.Samples.{EachOf, SomeOf, WholeSample, NotNext, PastTill, mdatEnd, fragment-fed, samples-whole, unfed}
 
 -- a step that goes through takes the fragment of its number
 pub step-goes : (g : State) (t : Stream) (p : Piece) → getElem? (t .pieces) (g .number) ≡ some p → goes g t p ≡ true
@@ -96,9 +96,9 @@ pub stuck-sample-not-next : (g : State) (s : List ℕ) (x : ℕ) → Meets g s x
 stuck-sample-not-next g s x e h = stuck-unfed g s x e (unfed NotNext s x (λ place next size w n. n (w .0)) h)
 
 -- a sample that ends past the data box: the step is stuck
-pub stuck-sample-past : (g : State) (s : List ℕ) (x : ℕ) → Meets g s x → SomeOf (Past (mdatEnd s x)) s x → stepOn g (streamOf s) ≡ none
+pub stuck-sample-past : (g : State) (s : List ℕ) (x : ℕ) → Meets g s x → SomeOf (PastTill (mdatEnd s x)) s x → stepOn g (streamOf s) ≡ none
 stuck-sample-past g s x e h =
-    stuck-unfed g s x e (unfed (Past (mdatEnd s x)) s x (λ place next size w n. let z : ⊥ = omega (arith, w .1, n) in z) h)
+    stuck-unfed g s x e (unfed (PastTill (mdatEnd s x)) s x (λ place next size w n. let z : ⊥ = omega (arith, w .1, n) in z) h)
 
 -- a choice that names no track: the plan is stuck there
 pub stuck-unnamed : (ss : List (List ℕ)) (g : State) (i : ℕ) (plan : List ℕ) → length ss ≤ i → playFrom (map streamOf ss) g (i ∷ plan) ≡ stuck
@@ -121,14 +121,14 @@ fits-unset none n h = tt
 fits-unset (some m) n h = eqb-true m n h
 
 -- what a step asks of the fragment at x of a track: all that the reasons above deny
-abbrev pub Ready : State → List ℕ → ℕ → Type 0
-Ready g s x =
+abbrev pub StepReady : State → List ℕ → ℕ → Type 0
+StepReady g s x =
     Meets g s x
     × (rulesBeforeTiming s ≡ Holds)
     × UnsetOr (g .scale) (timescale s)
     × (syncIn (whole s x) (headerOf s .defaults) ≡ true)
     × UnsetOr (g .clock) (startAt s x)
-    × EachOf (Whole (mdatEnd s x)) s x
+    × EachOf (WholeSample (mdatEnd s x)) s x
 
 -- a step's five tests on the fragment at x of a track
 module _ (g : State) (s : List ℕ) (x : ℕ) where
@@ -148,7 +148,7 @@ module _ (g : State) (s : List ℕ) (x : ℕ) where
   filled = fedAt s (headerOf s) x
 
 -- none of them: the step goes through and takes the fragment
-pub goes-through : (g : State) (s : List ℕ) (x : ℕ) → Ready g s x → stepOn g (streamOf s) ≡ some (pieceAt s (headerOf s) x)
+pub goes-through : (g : State) (s : List ℕ) (x : ℕ) → StepReady g s x → stepOn g (streamOf s) ≡ some (pieceAt s (headerOf s) x)
 unfolding goes streamOf pieceAt
 goes-through g s x r =
     step-goes g (streamOf s) (pieceAt s (headerOf s) x) (map-at (pieceAt s (headerOf s)) (fragments s) (g .number) x (r .0))
@@ -171,7 +171,7 @@ unfolding after streamOf pieceAt endAt startAt endOf
 state-after g s x = refl
 
 -- a plan whose first step goes through passes that clock, and goes on from that state
-pub plan-goes-on : (ss : List (List ℕ)) (g : State) (i : ℕ) (plan : List ℕ) (s : List ℕ) (x : ℕ) → getElem? ss i ≡ some s → Ready g s x
+pub plan-goes-on : (ss : List (List ℕ)) (g : State) (i : ℕ) (plan : List ℕ) (s : List ℕ) (x : ℕ) → getElem? ss i ≡ some s → StepReady g s x
     → playFrom (map streamOf ss) g (i ∷ plan)
     ≡ tick (startAt s x + durationIn (whole s x) (headerOf s .defaults))
     (playFrom (map streamOf ss)
@@ -204,7 +204,7 @@ unfolding play playStreams
 play-is-stuck ss i plan h = ap (tick (firstStart (map streamOf ss) (i ∷ plan))) h
 
 -- exactly: a step that goes through met all that is asked
-pub went-through : (g : State) (s : List ℕ) (p : Piece) → stepOn g (streamOf s) ≡ some p → (x : ℕ) × Ready g s x
+pub went-through : (g : State) (s : List ℕ) (p : Piece) → stepOn g (streamOf s) ≡ some p → (x : ℕ) × StepReady g s x
 unfolding goes streamOf pieceAt
 went-through g s p h = go (getElem? (fragments s) (g .number)) refl
   where
@@ -216,7 +216,7 @@ went-through g s p h = go (getElem? (fragments s) (g .number)) refl
     by x e true q = refl
     by x e false q = absurd (Option·none-ne-some p (sym (refuses-at g s x e q) ∙ h))
 
-    go : (o : Option ℕ) → getElem? (fragments s) (g .number) ≡ o → (x : ℕ) × Ready g s x
+    go : (o : Option ℕ) → getElem? (fragments s) (g .number) ≡ o → (x : ℕ) × StepReady g s x
     go none e = absurd (Option·none-ne-some p (sym (refuses g s (λ x q. absurd (Option·none-ne-some x (sym e ∙ q)))) ∙ h))
     go (some x) e =
         let q =

@@ -23,7 +23,7 @@ use Rattle.rules.specs.declared.Header.{Header}
 use Rattle.rules.proofs.Laws.{not-on}
 use Rattle.rules.proofs.Then.{then-first, then-second, must-holds}
 use Rattle.rules.proofs.Walk.{DataBox}
-use Rattle.rules.proofs.Samples.{place-is, EverySample, Whole, every-fed}
+use Rattle.rules.proofs.Samples.{place-is, EverySample, WholeSample, every-fed}
 
 -- a sample's size is among its run's sizes
 sum-below : (q : ℕ → ℕ) (i n : ℕ) → i < n → sumTo q i + q i ≤ sumTo q n
@@ -49,7 +49,7 @@ run-start x m first e before r p b = go (has (flagsOf m r) 0x1) p
 -- runs that rule 22 places, whose sizes end inside the data box: every sample is whole
 tiled-samples : (x : ℕ) (m : List ℕ) (d : Defaults) (first : Bool) (e : ℕ) (before : ℤ) (next till : ℕ) (rs : List ℕ)
     → rule22runs m d first e rs ≡ Holds → next ≡ x + e → (first ≡ false → before ≡ pos (x + e))
-    → next + bytesIn m d rs ≤ till → EverySample (Whole till) x m d before next rs
+    → next + bytesIn m d rs ≤ till → EverySample (WholeSample till) x m d before next rs
 unfolding rule22runs bytesIn runBytes
 tiled-samples x m d first e before next till [] h n b i = tt
 tiled-samples x m d first e before next till (r ∷ rs) h n b i = (

@@ -16,19 +16,19 @@ use Rattle.rules.specs.Plans.{All}
 use Rattle.rules.specs.declared.Path.{Path}
 use Rattle.rules.specs.declared.Path.the-variants.{Flat}
 use Rattle.rules.specs.declared.Look.{Look}
-use Rattle.rules.specs.declared.Look.the-variants.{Nothing, Short, Small, Beyond, Header}
+use Rattle.rules.specs.declared.Look.the-variants.{Nothing, Short, Small, Beyond, Good}
 use Rattle.rules.specs.declared.Stage.{Stage}
 use Rattle.rules.specs.declared.Stage.the-variants.{Start, Typed, Headed, Halved, Paired}
 use Rattle.rules.specs.declared.Stepped.{Stepped}
 use Rattle.rules.specs.declared.Stepped.the-variants.{To, Wrong}
 use Rattle.rules.specs.declared.Rule.the-variants.{Holds, Breaks}
 use Rattle.rules.proofs.Then.{broken}
-use Rattle.rules.proofs.Forest.{Found, look-found, sprout}
+use Rattle.rules.proofs.Forest.{FoundBox, look-found, sprout}
 
 -- boxes that stand one behind the other from a place on, each with what its header tells
 abbrev pub Siblings : List ℕ → ℕ → List Box → Type 0
 Siblings s at [] = Unit {0}
-Siblings s at (x ∷ xs) = (x .at ≡ at) × Found s at (x .inner) (x .size) (x .kind) × Siblings s (at + x .size) xs
+Siblings s at (x ∷ xs) = (x .at ≡ at) × FoundBox s at (x .inner) (x .size) (x .kind) × Siblings s (at + x .size) xs
 
 siblings : (f : ℕ) (p : Path) (s : List ℕ) (at : ℕ) → Siblings s at (tops (grow f p s at))
 unfolding grow tops
@@ -41,24 +41,24 @@ siblings (suc f) p s at = go (look s at) refl (λ z. siblings f p s (at + z))
     go Short e r = tt
     go Small e r = tt
     go Beyond e r = tt
-    go (Header h z k) e r = (refl, look-found s at h z k e, r z)
+    go (Good h z k) e r = (refl, look-found s at h z k e, r z)
 
 pub boxes-siblings : (s : List ℕ) (at : ℕ) → Siblings s at (boxes s at)
 unfolding boxes forest
 boxes-siblings s at = siblings (length s - at) Flat s at
 
 -- a stage led to
-abbrev Leads : Stepped → Stage → Type 0
-Leads (To g) h = g ≡ h
-Leads Wrong h = ⊥
+abbrev LeadsTo : Stepped → Stage → Type 0
+LeadsTo (To g) h = g ≡ h
+LeadsTo Wrong h = ⊥
 
 -- after a `moof` its `mdat` is awaited
 pub after-moof : (g : Stage) (k : ℕ) (h : Stage) → eqb k moof ≡ true → step6 g k ≡ To h → Halved ≡ h
 unfolding step6 awaits ordered
 after-moof g k h e q = go g (rw (eqb-true k moof e) at q)
   where
-    told : (r : Stepped) → r ≡ To h → Leads r h
-    told r p = subst (λ (t : Stepped). Leads t h) (sym p) refl
+    told : (r : Stepped) → r ≡ To h → LeadsTo r h
+    told r p = subst (λ (t : Stepped). LeadsTo t h) (sym p) refl
 
     go : (g : Stage) → step6 g moof ≡ To h → Halved ≡ h
     go Start p = absurd (told Wrong p)
@@ -87,7 +87,7 @@ unfolding orderFrom step6
 awaited s len at [] y h = absurd (broken h)
 awaited s len at (x ∷ xs) y h = go (eqb (x .kind) mdat) refl h
   where
-    b : Found s at (x .inner) (x .size) (x .kind)
+    b : FoundBox s at (x .inner) (x .size) (x .kind)
     b = y .1
 
     go : (t : Bool) → eqb (x .kind) mdat ≡ t
@@ -105,7 +105,7 @@ in-order s len at g [] y h = tt
 in-order s len at g (x ∷ xs) y h =
     go (step6 g (x .kind)) refl h (eqb (x .kind) moof) refl (λ k r. in-order s len (at + x .size) k xs (y .2) r)
   where
-    b : Found s at (x .inner) (x .size) (x .kind)
+    b : FoundBox s at (x .inner) (x .size) (x .kind)
     b = y .1
 
     here : orderFrom len Halved xs ≡ Holds → DataBox s (x .at)
@@ -140,8 +140,8 @@ still-early : (g : Stage) (k : ℕ) (h : Stage) → Early g → eqb k moof ≡ f
 unfolding step6 awaits
 still-early g k h e n q = go g e q
   where
-    to : (r : Stepped) (y : Stage) → r ≡ To y → Leads r y
-    to r y p = subst (λ (t : Stepped). Leads t y) (sym p) refl
+    to : (r : Stepped) (y : Stage) → r ≡ To y → LeadsTo r y
+    to r y p = subst (λ (t : Stepped). LeadsTo t y) (sym p) refl
 
     at : (a : Stage) → Early a → To a ≡ To h → Early h
     at a y p = subst Early (to (To a) h p) y

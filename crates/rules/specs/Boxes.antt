@@ -8,9 +8,9 @@ use Rattle.rules.specs.Kinds.{moov, moof, trak, mvex, edts, mdia, minf, 
 use Rattle.rules.specs.declared.Path.{Path}
 use Rattle.rules.specs.declared.Path.the-variants.{Top, Moov, Moof, Trak, Mdia, Minf, Flat}
 use Rattle.rules.specs.declared.Inside.{Inside}
-use Rattle.rules.specs.declared.Inside.the-variants.{Leaf, Holds}
+use Rattle.rules.specs.declared.Inside.the-variants.{Leaf, Container}
 use Rattle.rules.specs.declared.Look.{Look}
-use Rattle.rules.specs.declared.Look.the-variants.{Nothing, Short, Small, Beyond, Header}
+use Rattle.rules.specs.declared.Look.the-variants.{Nothing, Short, Small, Beyond, Good}
 
 -- n bytes of a slice from a place, as many of them as there are
 abbrev pub part : List ℕ → ℕ → ℕ → List ℕ
@@ -18,7 +18,7 @@ part s a n = take n (drop a s)
 
 -- a header of h bytes that says a size z, where `left` bytes remain: 3 if too small, 4 if beyond the parent
 unfoldable pub sized : ℕ → ℕ → ℕ → ℕ → Look
-sized left h z k = when (ltb z h) Small (when (ltb left z) Beyond (Header h z k))
+sized left h z k = when (ltb z h) Small (when (ltb left z) Beyond (Good h z k))
 
 -- what stands where `left` bytes remain: size 1 means that an 8-byte size follows the type
 unfoldable pub lookAt : List ℕ → ℕ → ℕ → Look
@@ -39,16 +39,16 @@ onLook Nothing e b h = e
 onLook Short e b h = b 2
 onLook Small e b h = b 3
 onLook Beyond e b h = b 4
-onLook (Header n z k) e b h = h n z k
+onLook (Good n z k) e b h = h n z k
 
 -- containers, only on these paths; every other box is a leaf, and a type that no rule names is passed over
 unfoldable pub inside : Path → ℕ → Inside
-inside Top k = when (eqb k moov) (Holds Moov) (when (eqb k moof) (Holds Moof) Leaf)
-inside Moov k = when (eqb k trak) (Holds Trak) (when (eqb k mvex) (Holds Flat) Leaf)
-inside Moof k = when (eqb k traf) (Holds Flat) Leaf
-inside Trak k = when (eqb k edts) (Holds Flat) (when (eqb k mdia) (Holds Mdia) Leaf)
-inside Mdia k = when (eqb k minf) (Holds Minf) Leaf
-inside Minf k = when (eqb k dinf) (Holds Flat) (when (eqb k stbl) (Holds Flat) Leaf)
+inside Top k = when (eqb k moov) (Container Moov) (when (eqb k moof) (Container Moof) Leaf)
+inside Moov k = when (eqb k trak) (Container Trak) (when (eqb k mvex) (Container Flat) Leaf)
+inside Moof k = when (eqb k traf) (Container Flat) Leaf
+inside Trak k = when (eqb k edts) (Container Flat) (when (eqb k mdia) (Container Mdia) Leaf)
+inside Mdia k = when (eqb k minf) (Container Minf) Leaf
+inside Minf k = when (eqb k dinf) (Container Flat) (when (eqb k stbl) (Container Flat) Leaf)
 inside Flat k = Leaf
 
 -- a box: its place in the slice, where its children begin behind that (its header's length), its whole size, its type
@@ -67,7 +67,7 @@ pub data Forest : Type 0 where
 -- what is inside a box's body
 abbrev pub within : (Path → List ℕ → Forest) → Inside → List ℕ → Forest
 within g Leaf s = end
-within g (Holds q) s = g q s
+within g (Container q) s = g q s
 
 -- the forest from a place: at most so many boxes one after the other, and nested at most so deep
 unfoldable pub grow : ℕ → Path → List ℕ → ℕ → Forest

@@ -10,6 +10,7 @@ use Rattle.rules.specs.Fragment.{computedFragment}
 use Rattle.rules.specs.Track.{computedTrack}
 use Rattle.rules.specs.Bundle.{computedBundle}
 use Rattle.rules.specs.Set.{computedSet}
+use Rattle.rules.specs.Course.{computedCourse}
 use Rattle.rules.specs.Player.{computedPlayer}
 use Rattle.rules.specs.Bytes.{computedBytes}
 use Rattle.numbers.specs.Numbers.{computedNumbers}
@@ -17,5 +18,5 @@ use Rattle.numbers.specs.Numbers.{computedNumbers}
 -- a mark, and no statement
 unfoldable pub computed : Unit {0}
 unfolding computedRules computedBoxes computedFraming computedOrder computedCounts computedFields computedHeader computedFragment
-    computedTrack computedBundle computedSet computedPlayer computedBytes computedNumbers
+    computedTrack computedBundle computedSet computedCourse computedPlayer computedBytes computedNumbers
 computed = tt

@@ -3,14 +3,15 @@ use Prim.Native.Nat.{ℕ, zero, suc, _*_}
 use mathlib.Core.List.{List, [], _∷_, _++_, map}
 use mathlib.Core.Path.{_≡_, refl}
 use lib.ListN.{take, drop}
-use Rattle.rules.specs.Kinds.{vmhd, trun, mdat, vide, soun, letters}
+use Rattle.rules.specs.Kinds.{vmhd, trun, vide, soun, letters}
 use Rattle.rules.specs.Bytes.{in4, in8, zeros, boxed, headerWith, header, run, moofOf, moofOf8, fragment, trackT}
 use Rattle.rules.specs.Computed.{computed}
 use Rattle.rules.specs.Boxes.{forest}
 use Rattle.rules.specs.Framing.{framing, framingRule}
-use Rattle.rules.specs.Fragment.{rule18}
+use Rattle.rules.specs.Fragment.{rule18, rule20}
 use Rattle.rules.specs.Bundle.{rule24}
 use Rattle.rules.specs.Track.{rule1, ruling, Outcome, trackOutcome}
+use Rattle.rules.specs.declared.Defaults.{Defaults}
 use Rattle.rules.specs.declared.Path.the-variants.{Top}
 use Rattle.rules.specs.declared.Rule.{Rule}
 use Rattle.rules.specs.declared.Rule.the-variants.{Holds, Breaks}
@@ -24,8 +25,8 @@ abbrev pub nines : List ℕ
 nines = 9 ∷ 9 ∷ 9 ∷ 9 ∷ []
 
 -- a refusal with its number and its place: no count, no timescale, the table as it was
-unfoldable pub refusal : ℕ → ℕ → Outcome
-refusal n place =
+unfoldable pub refusedAt : ℕ → ℕ → Outcome
+refusedAt n place =
     record { verdict = record { number = n; track = 0; place = place; count = 0; timescale = 0 }; table = nines }
 
 -- T's acceptance: two fragments, timescale 90000, three boundaries in the table and nothing after them changed
@@ -40,82 +41,96 @@ acceptance =
 unfoldable pub starred : List (List ℕ × Outcome)
 starred =
     -- no bytes; 7 bytes
-    ([], refusal 6 0)
-    ∷ (zeros 7, refusal 2 0)
+    ([], refusedAt 6 0)
+    ∷ (zeros 7, refusedAt 2 0)
     -- 8 bytes, type `free`: sizes 8, 7, 9, 1
-    ∷ (in4 8 ++ in4 free, refusal 6 0)
-    ∷ (in4 7 ++ in4 free, refusal 3 0)
-    ∷ (in4 9 ++ in4 free, refusal 4 0)
-    ∷ (in4 1 ++ in4 free, refusal 2 0)
+    ∷ (in4 8 ++ in4 free, refusedAt 6 0)
+    ∷ (in4 7 ++ in4 free, refusedAt 3 0)
+    ∷ (in4 9 ++ in4 free, refusedAt 4 0)
+    ∷ (in4 1 ++ in4 free, refusedAt 2 0)
     -- 16 bytes, `free`: long sizes 16 and 2^64 - 1
-    ∷ (in4 1 ++ in4 free ++ in8 16, refusal 6 0)
-    ∷ (in4 1 ++ in4 free ++ in8 18446744073709551615, refusal 4 0)
+    ∷ (in4 1 ++ in4 free ++ in8 16, refusedAt 6 0)
+    ∷ (in4 1 ++ in4 free ++ in8 18446744073709551615, refusedAt 4 0)
     -- T; second `tfdt` 180001; data offset 107; a spare byte in `mdat`, size 39
     ∷ (trackT, acceptance)
-    ∷ (header ++ fragment 0 108 30 ++ fragment 180001 108 30, refusal 19 678)
-    ∷ (header ++ fragment 0 107 30 ++ fragment 180000 108 30, refusal 22 556)
-    ∷ (header ++ fragment 0 108 31 ++ fragment 180000 108 30, refusal 22 592)
+    ∷ (header ++ fragment 0 108 30 ++ fragment 180001 108 30, refusedAt 19 678)
+    ∷ (header ++ fragment 0 107 30 ++ fragment 180000 108 30, refusedAt 22 556)
+    ∷ (header ++ fragment 0 108 31 ++ fragment 180000 108 30, refusedAt 22 592)
     ∷ []
 
 -- the twelve starred examples, by computation
 pub starred-examples : map (λ e. trackOutcome (e .0) nines) starred ≡ map (λ e. e .1) starred
-unfolding computed starred refusal acceptance
+unfolding computed starred refusedAt acceptance
 starred-examples = refl
+
+-- the limits, each at the last number allowed and one beyond: a number, and what the rule says there
+-- 1: 1,073,741,824 bytes
+unfoldable pub byteLimits : List (ℕ × Rule)
+byteLimits = (1073741824, Holds) ∷ (1073741825, Breaks 1 0 0) ∷ []
+
+pub byte-limits : map (λ e. rule1 (e .0)) byteLimits ≡ map (λ e. e .1) byteLimits
+unfolding computed byteLimits
+byte-limits = refl
 
 -- 2 to 5 of what is left of a slice after n boxes of 8 bytes each
 unfoldable pub afterBoxes : ℕ → List ℕ → Rule
 afterBoxes n s = framingRule (framing (forest Top s 0) (8 * n) n)
 
--- the limits of bytes and of boxes: what the rules say at the last number allowed and one beyond, and what document 01 says
-unfoldable pub limits : List (Rule × Rule)
-limits =
-    -- 1: 1,073,741,824 bytes
-    (rule1 1073741824, Holds)
-    ∷ (rule1 1073741825, Breaks 1 0 0)
+unfoldable pub boxLimits : List (ℕ × List ℕ × Rule)
+boxLimits =
     -- 5: the 4,096th box, and one box more
-    ∷ (afterBoxes 4095 (in4 8 ++ in4 free), Holds)
-    ∷ (afterBoxes 4096 (in4 8 ++ in4 free), Breaks 5 0 32768)
+    (4095, in4 8 ++ in4 free, Holds)
+    ∷ (4096, in4 8 ++ in4 free, Breaks 5 0 32768)
     -- 5: no byte after 4,096 boxes; stray bytes after 4,095 (2), and after 4,096 (5, which comes before 2)
-    ∷ (afterBoxes 4096 [], Holds)
-    ∷ (afterBoxes 4095 (zeros 7), Breaks 2 0 32760)
-    ∷ (afterBoxes 4096 (zeros 7), Breaks 5 0 32768)
+    ∷ (4096, [], Holds)
+    ∷ (4095, zeros 7, Breaks 2 0 32760)
+    ∷ (4096, zeros 7, Breaks 5 0 32768)
     ∷ []
 
--- the limits, by computation
-pub limit-examples : map (λ e. e .0) limits ≡ map (λ e. e .1) limits
-unfolding computed afterBoxes limits
-limit-examples = refl
-
--- a track of one fragment of 180,000 ticks, whose start has eight bytes: `tfdt` 20, `moof` 104, offset 112
-unfoldable pub startsAt : ℕ → List ℕ
-startsAt start = header ++ moofOf8 start (run 0 112 []) ++ boxed mdat (zeros 30)
+pub box-limits : map (λ e. afterBoxes (e .0) (e .1)) boxLimits ≡ map (λ e. e .2) boxLimits
+unfolding computed afterBoxes boxLimits
+box-limits = refl
 
 -- a `moof` whose one run has so many samples, with no fields of their own
 unfoldable pub samples : ℕ → List ℕ
 samples n = moofOf 0 (boxed trun (in4 0 ++ in4 n))
+
+-- 18: 65,536 samples
+unfoldable pub sampleLimits : List (ℕ × Rule)
+sampleLimits = (65536, Holds) ∷ (65537, Breaks 18 0 24) ∷ []
+
+pub sample-limits : map (λ e. rule18 (samples (e .0))) sampleLimits ≡ map (λ e. e .1) sampleLimits
+unfolding computed samples sampleLimits
+sample-limits = refl
+
+-- a `moof` of 180,000 ticks from a start of eight bytes: `tfdt` 20, `moof` 104, offset 112
+unfoldable pub startsAt : ℕ → List ℕ
+startsAt start = moofOf8 start (run 0 112 [])
+
+-- no `trex` default that a sample needs
+abbrev pub noDefaults : Defaults
+noDefaults = record { duration = 0; size = 0; flags = 0 }
+
+-- 20: an end at tick 2^63 - 1, and one tick later
+unfoldable pub tickLimits : List (ℕ × Rule)
+tickLimits = (9223372036854595807, Holds) ∷ (9223372036854595808, Breaks 20 0 68) ∷ []
+
+pub tick-limits : map (λ e. rule20 (startsAt (e .0)) noDefaults) tickLimits ≡ map (λ e. e .1) tickLimits
+unfolding computed startsAt tickLimits
+tick-limits = refl
 
 -- a bundle of so many empty tracks
 unfoldable pub recordsOf : ℕ → List ℕ
 recordsOf zero = []
 recordsOf (suc n) = (0x53 ∷ 0x57 ∷ in4 0) ++ recordsOf n
 
--- the limits of samples, of ticks and of records
-unfoldable pub furtherLimits : List (Rule × Rule)
-furtherLimits =
-    -- 18: 65,536 samples
-    (rule18 (samples 65536), Holds)
-    ∷ (rule18 (samples 65537), Breaks 18 0 24)
-    -- 20: an end at tick 2^63 - 1, and one tick later
-    ∷ (ruling (startsAt 9223372036854595807), Holds)
-    ∷ (ruling (startsAt 9223372036854595808), Breaks 20 0 560)
-    -- 24: 16 records, and 17
-    ∷ (rule24 (recordsOf 16), Holds)
-    ∷ (rule24 (recordsOf 17), Breaks 24 16 96)
-    ∷ []
+-- 24: 16 records, and 17
+unfoldable pub recordLimits : List (ℕ × Rule)
+recordLimits = (16, Holds) ∷ (17, Breaks 24 16 96) ∷ []
 
-pub further-limit-examples : map (λ e. e .0) furtherLimits ≡ map (λ e. e .1) furtherLimits
-unfolding computed startsAt samples recordsOf furtherLimits
-further-limit-examples = refl
+pub record-limits : map (λ e. rule24 (recordsOf (e .0))) recordLimits ≡ map (λ e. e .1) recordLimits
+unfolding computed recordsOf recordLimits
+record-limits = refl
 
 -- tracks that break two rules, and the one that comes first
 unfoldable pub orders : List (List ℕ × Rule)

@@ -86,18 +86,34 @@ unfoldable pub rule15runs : List ℕ → List ℕ → Rule
 rule15runs m [] = Holds
 rule15runs m (r ∷ rs) = body 15 (runForm m r) m r then rule15runs m rs
 
+-- `mfhd` 16, version 0
+abbrev pub mfhdForm : Form
+mfhdForm = plain 16
+
+-- `tfhd` version 0, sized by its flags
+abbrev pub tfhdForm : ℕ → Form
+tfhdForm flags = plain (tfhdSize flags)
+
+-- `tfdt` 16 (version 0) or 20 (version 1)
+abbrev pub tfdtForm : Form
+tfdtForm = either 16 20
+
 -- 15: `mfhd` 16, version 0; `tfhd` version 0, sized by its flags; `tfdt` 16 (version 0) or 20 (version 1); then the runs
 unfoldable pub rule15 : List ℕ → Rule
 rule15 m =
-    body 15 (plain 16) m (mfhdIn m)
-    then body 15 (plain (tfhdSize (flagsOf m (tfhdIn m)))) m (tfhdIn m)
-    then body 15 (either 16 20) m (tfdtIn m)
+    body 15 mfhdForm m (mfhdIn m)
+    then body 15 (tfhdForm (flagsOf m (tfhdIn m))) m (tfhdIn m)
+    then body 15 tfdtForm m (tfdtIn m)
     then rule15runs m (runsIn m)
 
--- 16, each `trun`: 0x4 and 0x400 not both
+-- 16, a `trun`: 0x4 and 0x400 not both
+abbrev pub notBoth : ℕ → Bool
+notBoth f = not (has f 0x4 && has f 0x400)
+
+-- 16, each `trun`
 unfoldable pub rule16runs : List ℕ → List ℕ → Rule
 rule16runs m [] = Holds
-rule16runs m (r ∷ rs) = must (not (has (flagsOf m r) 0x4 && has (flagsOf m r) 0x400)) 16 r then rule16runs m rs
+rule16runs m (r ∷ rs) = must (notBoth (flagsOf m r)) 16 r then rule16runs m rs
 
 -- 16, `tfhd`: 0x1 and 0x10000 clear, 0x20000 set
 unfoldable pub flagged : ℕ → Bool
@@ -107,18 +123,26 @@ flagged f = not (has f 0x1) && not (has f 0x10000) && has f 0x20000
 unfoldable pub rule16 : List ℕ → Rule
 rule16 m = must (flagged (flagsOf m (tfhdIn m))) 16 (tfhdIn m) then rule16runs m (runsIn m)
 
+-- the `tfhd` track ID
+abbrev pub tfhdId : List ℕ → ℕ
+tfhdId m = field m (tfhdIn m) 4
+
 -- 17: `tfhd` track ID differs from `tkhd`
 unfoldable pub rule17 : List ℕ → ℕ → Rule
-rule17 m id = must (eqb (field m (tfhdIn m) 4) id) 17 (tfhdIn m)
+rule17 m id = must (eqb (tfhdId m) id) 17 (tfhdIn m)
 
 -- the samples of the runs in all
 unfoldable pub samplesOf : List ℕ → List ℕ → ℕ
 samplesOf m [] = 0
 samplesOf m (r ∷ rs) = countOf m r + samplesOf m rs
 
+-- 1 to 65,536 samples
+abbrev pub few : ℕ → Bool
+few n = leb 1 n && leb n sampleLimit
+
 -- 18: samples in the fragment not 1 to 65,536
 unfoldable pub rule18 : List ℕ → Rule
-rule18 m = must (leb 1 (samplesOf m (runsIn m)) && leb (samplesOf m (runsIn m)) sampleLimit) 18 (trafIn m)
+rule18 m = must (few (samplesOf m (runsIn m))) 18 (trafIn m)
 
 -- 14 to 18: the fragment's shape
 unfoldable pub shape : List ℕ → ℕ → Rule
@@ -193,9 +217,13 @@ durationIn m d = durationsOf m (defaultsIn m d) (runsIn m)
 unfoldable pub endOf : List ℕ → Defaults → ℕ
 endOf m d = startOf m + durationIn m d
 
--- non-sync is bit 0x00010000 of the first sample's flags
+-- a sample's flags say sync: non-sync is bit 0x00010000
+abbrev pub isSync : ℕ → Bool
+isSync f = not (has f 0x10000)
+
+-- whether the first sample is sync
 unfoldable pub syncIn : List ℕ → Defaults → Bool
-syncIn m d = not (has (firstFlags m (defaultsIn m d) (runsIn m)) 0x10000)
+syncIn m d = isSync (firstFlags m (defaultsIn m d) (runsIn m))
 
 -- a start follows the previous end: it is that end, if there is one
 unfoldable pub follows : Previous → ℕ → Bool
@@ -206,9 +234,13 @@ follows (End e) start = eqb start e
 unfoldable pub rule19 : List ℕ → Previous → Rule
 rule19 m prev = must (follows prev (startOf m)) 19 (tfdtIn m)
 
+-- so many ticks from a start: not 0, and up to 2^63 - 1
+abbrev pub lasts : ℕ → ℕ → Bool
+lasts start ticks = leb 1 ticks && leb (start + ticks) tickLimit
+
 -- 20: fragment duration 0, or its end over 2^63 - 1
 unfoldable pub rule20 : List ℕ → Defaults → Rule
-rule20 m d = must (leb 1 (durationIn m d) && leb (endOf m d) tickLimit) 20 (firstRun m)
+rule20 m d = must (lasts (startOf m) (durationIn m d)) 20 (firstRun m)
 
 -- 21: first sample is non-sync
 unfoldable pub rule21 : List ℕ → Defaults → Rule

@@ -10,7 +10,7 @@ use Rattle.rules.specs.Kinds.{stbl, stsd, stts, stsc, stsz, stco, mvex, 
 use Rattle.rules.specs.Rules.{_then_, must, moved}
 use Rattle.rules.specs.Boxes.{headOf, sizeOf, kindOf, kids}
 use Rattle.rules.specs.Counts.{seen, firstIn, child, counts, countsIf}
-use Rattle.rules.specs.Fields.{field, timed, either, plain, atLeast, fours, hasForm, body}
+use Rattle.rules.specs.Fields.{Form, field, timed, either, plain, atLeast, fours, hasForm, body}
 use Rattle.rules.specs.declared.Entry.{Entry}
 use Rattle.rules.specs.declared.Entry.the-variants.{One, AtMostOne, OneInAll}
 use Rattle.rules.specs.declared.Ftyp.{Ftyp}
@@ -123,19 +123,47 @@ unfoldable pub rule8ftyp : Ftyp → Rule
 rule8ftyp (Branded b) = Holds
 rule8ftyp Wrong = Breaks 8 0 0
 
+-- `mvhd` 108 (version 0) or 120 (version 1)
+abbrev pub mvhdForm : Form
+mvhdForm = either 108 120
+
+-- `tkhd` 92 or 104
+abbrev pub tkhdForm : Form
+tkhdForm = either 92 104
+
+-- `mdhd` 32 or 44
+abbrev pub mdhdForm : Form
+mdhdForm = either 32 44
+
+-- `hdlr` at least 32
+abbrev pub hdlrForm : Form
+hdlrForm = atLeast 32
+
+-- `stsd`, `stts`, `stsc`, `stco` at least 16
+abbrev pub tableForm : Form
+tableForm = atLeast 16
+
+-- `stsz` at least 20
+abbrev pub stszForm : Form
+stszForm = atLeast 20
+
+-- `trex` 32, version 0
+abbrev pub trexForm : Form
+trexForm = plain 32
+
 -- 8 in `moov`, in this order
 unfoldable pub rule8 : List ℕ → Places → Rule
 rule8 m p =
-    body 8 (either 108 120) m (p .mvhd)
-    then body 8 (either 92 104) m (p .tkhd)
-    then body 8 (either 32 44) m (p .mdhd)
-    then body 8 (atLeast 32) m (p .hdlr)
-    then body 8 (atLeast 16) m (p .stsd)
-    then body 8 (atLeast 16) m (p .stts)
-    then body 8 (atLeast 16) m (p .stsc)
-    then body 8 (atLeast 16) m (p .stco)
-    then body 8 (atLeast 20) m (p .stsz)
-    then body 8 (plain 32) m (p .trex)
+    body 8 mvhdForm m (p .mvhd)
+    then body 8 tkhdForm m (p .tkhd)
+    then body 8 mdhdForm m (p .mdhd)
+    then body 8 hdlrForm m (p .hdlr)
+    then body 8 tableForm m (p .stsd)
+    then body 8 tableForm m (p .stts)
+    then body 8 tableForm m (p .stsc)
+    then body 8 tableForm m (p .stco)
+    then body 8 stszForm m (p .stsz)
+    then body 8 trexForm m (p .trex)
 
 -- 9: neither `cmfc` nor `cmf2` among the compatible brands
 unfoldable pub rule9 : Ftyp → Rule
@@ -152,6 +180,16 @@ idOf m p = timed m (p .tkhd)
 abbrev pub handlerOf : List ℕ → Places → ℕ
 handlerOf m p = field m (p .hdlr) 8
 
+-- the `trex` track ID, the entry count of a table, and of `stsz` the sample count, each at a place
+abbrev pub trexId : List ℕ → ℕ → ℕ
+trexId m at = field m at 4
+
+abbrev pub entryCount : List ℕ → ℕ → ℕ
+entryCount m at = field m at 4
+
+abbrev pub sampleCount : List ℕ → ℕ → ℕ
+sampleCount m at = field m at 8
+
 -- 10: `mdhd` timescale 0
 unfoldable pub rule10 : List ℕ → Places → Rule
 rule10 m p = must (not (eqb (timescaleOf m p) 0)) 10 (p .mdhd)
@@ -159,7 +197,7 @@ rule10 m p = must (not (eqb (timescaleOf m p) 0)) 10 (p .mdhd)
 -- 11: `tkhd` track ID 0, or `trex` has another
 unfoldable pub rule11 : List ℕ → Places → Rule
 rule11 m p =
-    must (not (eqb (idOf m p) 0)) 11 (p .tkhd) then must (eqb (field m (p .trex) 4) (idOf m p)) 11 (p .trex)
+    must (not (eqb (idOf m p) 0)) 11 (p .tkhd) then must (eqb (trexId m (p .trex)) (idOf m p)) 11 (p .trex)
 
 -- `vide` with `vmhd`, `soun` with `smhd`, `subt` with `sthd`
 unfoldable pub pairs : ℕ → ℕ → Bool
@@ -173,11 +211,11 @@ rule12 m p = must (pairs (handlerOf m p) (kindOf m (p .media))) 12 (p .hdlr)
 -- 13: `stsd` entry count not 1, or a sample table not empty; of `stsz` the sample count
 unfoldable pub rule13 : List ℕ → Places → Rule
 rule13 m p =
-    must (eqb (field m (p .stsd) 4) 1) 13 (p .stsd)
-    then must (eqb (field m (p .stts) 4) 0) 13 (p .stts)
-    then must (eqb (field m (p .stsc) 4) 0) 13 (p .stsc)
-    then must (eqb (field m (p .stsz) 8) 0) 13 (p .stsz)
-    then must (eqb (field m (p .stco) 4) 0) 13 (p .stco)
+    must (eqb (entryCount m (p .stsd)) 1) 13 (p .stsd)
+    then must (eqb (entryCount m (p .stts)) 0) 13 (p .stts)
+    then must (eqb (entryCount m (p .stsc)) 0) 13 (p .stsc)
+    then must (eqb (sampleCount m (p .stsz)) 0) 13 (p .stsz)
+    then must (eqb (entryCount m (p .stco)) 0) 13 (p .stco)
 
 -- 10 to 13, in this order
 unfoldable pub rulesOfValues : List ℕ → Places → Rule
@@ -192,9 +230,9 @@ headerRules base f m =
     then rule9 f
     then moved base (rulesOfValues m (placesIn m))
 
--- the `trex` defaults
-unfoldable pub trexDefaults : List ℕ → Places → Defaults
-trexDefaults m p = record { duration = field m (p .trex) 12; size = field m (p .trex) 16; flags = field m (p .trex) 20 }
+-- the defaults of the `trex` at a place
+unfoldable pub trexDefaults : List ℕ → ℕ → Defaults
+trexDefaults m at = record { duration = field m at 12; size = field m at 16; flags = field m at 20 }
 
 -- what the header tells, by the places of its boxes
 unfoldable pub headerBy : List ℕ → Places → Header
@@ -203,7 +241,7 @@ headerBy m p =
       timescale = timescaleOf m p;
       id = idOf m p;
       handler = handlerOf m p;
-      defaults = trexDefaults m p;
+      defaults = trexDefaults m (p .trex);
     }
 
 -- what the header tells

@@ -12,6 +12,7 @@ pub mod Fragment
 pub mod Track
 pub mod Bundle
 pub mod Set
+pub mod Course
 pub mod Jobs
 pub mod Player
 pub mod Plans

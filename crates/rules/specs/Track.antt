@@ -94,15 +94,19 @@ fragmentCount s = length (fragments s)
 unfoldable pub timescale : List ℕ → ℕ
 timescale s = headerOf s .timescale
 
--- the last end of a fragment at x and those after it
-unfoldable pub lastEnd : List ℕ → Header → ℕ → List ℕ → ℕ
-lastEnd s h x [] = endAt s h x
-lastEnd s h x (y ∷ ys) = lastEnd s h y ys
+-- the end of the last of fragments at places, after an end before them
+unfoldable pub lastEnd : List ℕ → Header → Previous → List ℕ → Previous
+lastEnd s h prev [] = prev
+lastEnd s h prev (x ∷ xs) = lastEnd s h (End (endAt s h x)) xs
+
+-- an end as a list: none where it is unset
+abbrev pub endList : Previous → List ℕ
+endList Unset = []
+endList (End e) = e ∷ []
 
 -- the boundaries of fragments at places: each fragment's start, and the last end
 unfoldable pub ticks : List ℕ → Header → List ℕ → List ℕ
-ticks s h [] = []
-ticks s h (x ∷ xs) = map (startAt s) (x ∷ xs) ++ (lastEnd s h x xs ∷ [])
+ticks s h xs = map (startAt s) xs ++ endList (lastEnd s h Unset xs)
 
 unfoldable pub boundaries : List ℕ → List ℕ
 boundaries s = ticks s (headerOf s) (fragments s)

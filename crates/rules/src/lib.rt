@@ -16,7 +16,7 @@ pub enum Path {
 // What a box type is on a path: a leaf, or a container whose run stands on another path.
 pub enum Inside {
     Leaf,
-    Holds(Path),
+    Container(Path),
 }
 
 // What stands at a place of a slice: nothing, a broken header, or a box.
@@ -25,7 +25,14 @@ pub enum Look {
     Short,
     Small,
     Beyond,
-    Header { head: usize, size: usize, kind: u32 },
+    Good { head: usize, size: usize, kind: u32 },
+}
+
+// Where a box stands in a slice: its place, its header's length and its whole size.
+pub struct Spot {
+    pub at: usize,
+    pub head: usize,
+    pub size: usize,
 }
 
 // How a run of boxes is framed: whole, with the number of boxes so far, or broken at a place.
@@ -120,6 +127,37 @@ pub struct Header {
     pub defaults: Defaults,
 }
 
+// What is known of a track: what its header tells, where `mdhd` and `hdlr` stand in it, the number of its fragments and their last end.
+pub struct TrackFacts {
+    pub header: Header,
+    pub mdhd: u64,
+    pub hdlr: u64,
+    pub fragments: u64,
+    pub end: Previous,
+}
+
+// What the rules of a track come to: all hold, with what is known of it, or the first that breaks.
+pub enum Judged {
+    Accepted(TrackFacts),
+    Refused { number: u64, track: u64, place: u64 },
+}
+
+// A stage of rule 6 with what the boxes up to it brought: nothing yet; what `ftyp` tells; the header's rules; a `moof` that waits for its
+// `mdat`; a fragment's rules.
+pub enum Reached {
+    Start,
+    Typed(Ftyp),
+    Headed(Judged),
+    Halved(Judged, Spot),
+    Paired(Judged),
+}
+
+// What a track has come to after some of its boxes: a stage that they reached, or the place where the order breaks.
+pub enum Course {
+    On(Reached),
+    Broken(usize),
+}
+
 // What a job answers.
 pub struct Verdict {
     pub number: u64,
@@ -177,5 +215,18 @@ pub fn of_track(k: u64, rule: Rule) -> Rule
             track: k,
             place,
         },
+    }
+}
+
+// A job's refusal: no count, no timescale.
+pub fn refusal(number: u64, track: u64, place: u64) -> Verdict
+    ensures { λ r. ⌜ r ≡ record { number = number; track = track; place = place; count = 0; timescale = 0 } ⌝ }
+{
+    Verdict {
+        number,
+        track,
+        place,
+        count: 0,
+        timescale: 0,
     }
 }

@@ -8,34 +8,37 @@ use lib.ListN.{length}
 use lib.Dec.{eqb}
 use borrow.Author.Tests.{eq-eqb, ne-eqb, eqb-true}
 use Rattle.rules.specs.Rules.{_then_, must}
-use Rattle.rules.specs.Track.{headerOf, fragments, fragmentsFrom, fragmentCount, timescale}
+use Rattle.rules.specs.Track.{headerOf, fragments, fragmentsFrom, fragmentCount, timescale, lastEnd, endList}
 use Rattle.rules.specs.Set.{handler, hdlrAt, mdhdAt, same, rule28, rule28From, agrees}
+use Rattle.rules.specs.Course.{factsOf}
 use Rattle.rules.specs.declared.Header.{Header}
 use Rattle.rules.specs.declared.Previous.{Previous}
 use Rattle.rules.specs.declared.Previous.the-variants.{Unset, End}
 use Rattle.rules.specs.declared.Rule.{Rule}
 use Rattle.rules.specs.declared.Rule.the-variants.{Holds, Breaks}
+use Rattle.rules.specs.declared.TrackFacts.{TrackFacts}
 use Rattle.rules.proofs.Then.{then-holds, then-breaks, then-last, then-second, then-assoc, must-true, must-false, must-holds}
-use Rattle.track.specs.Course.{endFrom, endOfTrack, factsOf, Known}
-use Rattle.track.specs.Cursor.{NextAt, endList}
-use Rattle.track.specs.declared.TrackFacts.{TrackFacts}
-use Rattle.track.proofs.Table.{written, boundaries-written, end-last, known-count}
+use Rattle.track.specs.Course.{endOfTrack, Known}
+use Rattle.track.specs.Cursor.{NextAt}
+use Rattle.track.proofs.Table.{written, boundaries-written, known-count}
 use Rattle.set.specs.Says.{sameEnd}
 
--- two tracks with one number of fragments have an end both, or neither
-pub data Alike : Previous → Previous → Type 0 where
-  neither : Alike Unset Unset
-  both : {a b : ℕ} → Alike (End a) (End b)
+-- two ends: both are set, or neither is
+pub data BothEnds : Previous → Previous → Type 0 where
+  neither : BothEnds Unset Unset
+  both : {a b : ℕ} → BothEnds (End a) (End b)
 
-alike : (s₀ s : List ℕ) (h₀ h : Header) (xs ys : List ℕ) → length ys ≡ length xs → Alike (endFrom s₀ h₀ Unset xs) (endFrom s h Unset ys)
-unfolding endFrom
-alike s₀ s h₀ h [] [] e = neither
-alike s₀ s h₀ h [] (y ∷ ys) e = absurd (omega arith)
-alike s₀ s h₀ h (x ∷ xs) [] e = absurd (omega arith)
-alike s₀ s h₀ h (x ∷ xs) (y ∷ ys) e = rw (end-last s₀ h₀ x xs, end-last s h y ys) both
+-- they stay so after as many fragments
+both-stay : (s₀ s : List ℕ) (h₀ h : Header) {a b : Previous} (xs ys : List ℕ) → BothEnds a b → length ys ≡ length xs
+    → BothEnds (lastEnd s₀ h₀ a xs) (lastEnd s h b ys)
+unfolding lastEnd
+both-stay s₀ s h₀ h [] [] i e = i
+both-stay s₀ s h₀ h [] (y ∷ ys) i e = absurd (omega arith)
+both-stay s₀ s h₀ h (x ∷ xs) [] i e = absurd (omega arith)
+both-stay s₀ s h₀ h (x ∷ xs) (y ∷ ys) i e = both-stay s₀ s h₀ h xs ys both (omega arith)
 
 -- rule 28 where no fragment is left
-ends : {end₀ end : Previous} (place : ℕ) → Alike end₀ end → rule28From place (endList end₀) (endList end) [] ≡ must (sameEnd end₀ end) 28 place
+ends : {end₀ end : Previous} (place : ℕ) → BothEnds end₀ end → rule28From place (endList end₀) (endList end) [] ≡ must (sameEnd end₀ end) 28 place
 unfolding rule28From must
 ends place neither = refl
 ends place (both {a} {b}) = then-last (must (eqb b a) 28 place)
@@ -45,23 +48,23 @@ abbrev rest28 : List ℕ → Previous → List ℕ → Previous → ℕ → ℕ 
 rest28 s₀ end₀ s end at₀ at last =
     rule28From last (written s₀ end₀ (fragmentsFrom s₀ at₀)) (written s end (fragmentsFrom s at)) (fragmentsFrom s at)
 
-pub record Going (s₀ : List ℕ) (end₀ : Previous) (s : List ℕ) (end : Previous) (at₀ at last : ℕ) : Type 0 where
+pub record BesideGoing (s₀ : List ℕ) (end₀ : Previous) (s : List ℕ) (end : Previous) (at₀ at last : ℕ) : Type 0 where
   pub rule : rule28 s₀ s ≡ rest28 s₀ end₀ s end at₀ at last
   pub same : length (fragmentsFrom s at) ≡ length (fragmentsFrom s₀ at₀)
-  pub alike : Alike end₀ end
+  pub alike : BothEnds end₀ end
   pub inner₀ : at₀ ≤ length s₀
 
-pub going-begins : (s₀ s : List ℕ) {end₀ end : Previous} → end₀ ≡ endOfTrack s₀ → end ≡ endOfTrack s
-    → fragmentCount s ≡ fragmentCount s₀ → Going s₀ end₀ s end 0 0 0
-unfolding rule28 fragmentCount endOfTrack
-going-begins s₀ s e₀ e n =
+pub beside-begins : (s₀ s : List ℕ) {end₀ end : Previous} → end₀ ≡ endOfTrack s₀ → end ≡ endOfTrack s
+    → fragmentCount s ≡ fragmentCount s₀ → BesideGoing s₀ end₀ s end 0 0 0
+unfolding rule28 fragmentCount
+beside-begins s₀ s e₀ e n =
     record {
       rule =
           ap₂ (λ (x y : List ℕ). rule28From 0 x y (fragments s))
           (boundaries-written s₀ ∙ ap (λ (l : Previous). written s₀ l (fragments s₀)) (sym e₀))
           (boundaries-written s ∙ ap (λ (l : Previous). written s l (fragments s)) (sym e));
       same = n;
-      alike = rw (e₀, e) (alike s₀ s (headerOf s₀) (headerOf s) (fragments s₀) (fragments s) n);
+      alike = rw (e₀, e) (both-stay s₀ s (headerOf s₀) (headerOf s) (fragments s₀) (fragments s) neither n);
       inner₀ = omega arith;
     }
 
@@ -70,11 +73,11 @@ empty : (xs : List ℕ) → length xs ≡ 0 → xs ≡ []
 empty [] e = refl
 empty (x ∷ xs) e = absurd (omega arith)
 
-module _ (s₀ : List ℕ) {end₀ : Previous} (s : List ℕ) {end : Previous} {at₀ at last : ℕ} (g : Going s₀ end₀ s end at₀ at last) where
+module _ (s₀ : List ℕ) {end₀ : Previous} (s : List ℕ) {end : Previous} {at₀ at last : ℕ} (g : BesideGoing s₀ end₀ s end at₀ at last) where
   -- the last boundary
-  pub going-ends : fragmentsFrom s₀ at₀ ≡ [] → rule28 s₀ s ≡ must (sameEnd end₀ end) 28 last
+  pub beside-ends : fragmentsFrom s₀ at₀ ≡ [] → rule28 s₀ s ≡ must (sameEnd end₀ end) 28 last
   unfolding written
-  going-ends e =
+  beside-ends e =
       g .rule
       ∙ ap₂ (λ (x y : List ℕ). rule28From last (written s₀ end₀ x) (written s end y) y) e
       (empty (fragmentsFrom s at) (omega (arith, g .same, ap length e)))
@@ -82,30 +85,30 @@ module _ (s₀ : List ℕ) {end₀ : Previous} (s : List ℕ) {end : Previous} {
 
   module _ {p₀ q₀ v₀ : ℕ} (c₀ : NextAt s₀ at₀ p₀ q₀ v₀) where
     -- the other track has a fragment too
-    pub going-short : fragmentsFrom s at ≡ [] → ⊥
-    going-short e = omega (arith, g .same, ap length e, ap length (c₀ .places))
+    pub beside-short : fragmentsFrom s at ≡ [] → ⊥
+    beside-short e = omega (arith, g .same, ap length e, ap length (c₀ .places))
 
     module _ {p q v : ℕ} (c : NextAt s at p q v) where
       -- one boundary of both
-      step : rule28 s₀ s ≡ (must (eqb v v₀) 28 p then rest28 s₀ end₀ s end q₀ q p)
+      beside-step : rule28 s₀ s ≡ (must (eqb v v₀) 28 p then rest28 s₀ end₀ s end q₀ q p)
       unfolding rule28From written
-      step =
+      beside-step =
           g .rule
           ∙ ap₂ (λ (x y : List ℕ). rule28From last (written s₀ end₀ x) (written s end y) y) (c₀ .places) (c .places)
           ∙ ap₂ (λ (x y : ℕ). must (eqb y x) 28 p then rest28 s₀ end₀ s end q₀ q p) (sym (c₀ .start)) (sym (c .start))
 
-      pub going-on : v ≡ v₀ → Going s₀ end₀ s end q₀ q p
-      going-on e =
+      pub beside-on : v ≡ v₀ → BesideGoing s₀ end₀ s end q₀ q p
+      beside-on e =
           record {
-            rule = step ∙ then-holds _ (must-true 28 p (eq-eqb v v₀ e));
+            rule = beside-step ∙ then-holds _ (must-true 28 p (eq-eqb v v₀ e));
             same = omega (arith, g .same, ap length (c .places), ap length (c₀ .places));
             alike = g .alike;
             inner₀ = c₀ .inner;
           }
 
-      pub going-differs : (v ≡ v₀ → ⊥) → rule28 s₀ s ≡ must false 28 p
+      pub beside-differs : (v ≡ v₀ → ⊥) → rule28 s₀ s ≡ must false 28 p
       unfolding must
-      going-differs e = step ∙ then-breaks _ (must-false 28 p (ne-eqb v v₀ e))
+      beside-differs e = beside-step ∙ then-breaks _ (must-false 28 p (ne-eqb v v₀ e))
 
 -- the rules in their order, by what is known of both tracks
 module _ (s₀ s : List ℕ) (f₀ f : TrackFacts) (k₀ : Known s₀ f₀) (k : Known s f) where
@@ -124,9 +127,9 @@ module _ (s₀ s : List ℕ) (f₀ f : TrackFacts) (k₀ : Known s₀ f₀) (k :
       (e₂₇ : r₂₇ ≡ must (eqb (f .fragments) (f₀ .fragments)) 27 (length s))
       (e : r ≡ (r₂₅ then (r₂₆ then r₂₇))) where
     -- they come before 28
-    in-order : agrees s₀ s ≡ (r then rule28 s₀ s)
+    facts-first : agrees s₀ s ≡ (r then rule28 s₀ s)
     unfolding agrees
-    in-order =
+    facts-first =
         sym
         (ap (λ (q : Rule). q then rule28 s₀ s) (e ∙ ap₂ _then_ e₂₅ (ap₂ _then_ e₂₆ e₂₇) ∙ by-name)
         ∙ then-assoc _ _ (rule28 s₀ s)
@@ -134,11 +137,11 @@ module _ (s₀ s : List ℕ) (f₀ f : TrackFacts) (k₀ : Known s₀ f₀) (k :
 
     -- one of them breaks
     pub facts-break : {n t p : ℕ} → r ≡ Breaks n t p → r ≡ agrees s₀ s
-    facts-break i = i ∙ sym (in-order ∙ then-breaks _ i)
+    facts-break i = i ∙ sym (facts-first ∙ then-breaks _ i)
 
     -- they hold
     pub only28 : r ≡ Holds → rule28 s₀ s ≡ agrees s₀ s
-    only28 i = sym (in-order ∙ then-holds _ i)
+    only28 i = sym (facts-first ∙ then-holds _ i)
 
     pub same-count : r ≡ Holds → fragmentCount s ≡ fragmentCount s₀
     same-count i =

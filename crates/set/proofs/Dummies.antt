@@ -4,38 +4,36 @@ use mathlib.Core.List.{List, [], _∷_, _++_}
 use mathlib.Core.Path.{_≡_, refl, ap}
 use lib.Dec.{eqb}
 use lib.ListN.{length, set, getD}
-use Rattle.rules.specs.Bytes.{in4, trackT}
+use Rattle.rules.specs.Bytes.{trackT}
 use Rattle.rules.specs.Computed.{computed}
-use Rattle.rules.specs.Examples.{nines, refusal, acceptance}
+use Rattle.rules.specs.Examples.{nines, refusedAt, acceptance}
 use Rattle.rules.specs.Bundle.{tracks}
 use Rattle.rules.specs.Jobs.{Job, Shut, Dummy, writes-past, Shown}
 use Rattle.rules.specs.Track.{Outcome, accepted, boundaries}
 use Rattle.rules.specs.Set.{track0, setOutcome}
 use Rattle.rules.proofs.Jobs.{shut, left-past}
 use Rattle.rules.proofs.Refusals.{set-refusals}
+use Rattle.bundle.specs.Front.{recordOf}
 use Rattle.track.proofs.Dummies.{half}
 
--- a track as a record, and a bundle of one track twice
-unfoldable recordOf : List ℕ → List ℕ
-recordOf s = 0x53 ∷ 0x57 ∷ in4 (length s) ++ s
-
+-- a bundle of one track twice
 unfoldable twice : List ℕ → List ℕ
 twice s = recordOf s ++ recordOf s
 
 T-twice-is : setOutcome (twice trackT) nines ≡ acceptance
-unfolding computed recordOf twice acceptance
+unfolding computed twice acceptance
 T-twice-is = refl
 
 half-twice-is : setOutcome (twice half) nines ≡ accepted 1 90000 (0 ∷ 180000 ∷ []) nines
-unfolding computed recordOf twice half
+unfolding computed twice half
 half-twice-is = refl
 
-none-is : setOutcome [] nines ≡ refusal 24 0
-unfolding computed refusal
+none-is : setOutcome [] nines ≡ refusedAt 24 0
+unfolding computed refusedAt
 none-is = refl
 
 shown : Shown setOutcome
-unfolding computed recordOf twice half acceptance refusal
+unfolding computed twice half acceptance refusedAt
 shown =
     record {
       good = twice trackT;

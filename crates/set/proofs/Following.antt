@@ -56,20 +56,20 @@ rest-part b at k h {n} e f =
     ∙ ap (λ (l : ℕ). take l (drop (at + 6) b) ∷ restOf b (k + 1) (at + 6 + n)) (sym (add-sub-cancel-left (at + 6) n))
 
 -- the tracks from the k-th on come to the whole with what is left, after what was broken so far
-pub record Going (b s₀ : List ℕ) (from at k : ℕ) (sofar : Rule) : Type 0 where
+pub record MembersGoing (b s₀ : List ℕ) (from at k : ℕ) (sofar : Rule) : Type 0 where
   pub rule : allOf b s₀ from ≡ (rulings k (restOf b k at) then (sofar then agree s₀ k (restOf b k at)))
   pub few : k ≤ recordLimit
   pub inner : at ≤ length b
 
-pub going-begins : (b s₀ : List ℕ) (from : ℕ) → from ≤ length b → Going b s₀ from from 1 Holds
+pub members-begins : (b s₀ : List ℕ) (from : ℕ) → from ≤ length b → MembersGoing b s₀ from from 1 Holds
 unfolding _then_
-going-begins b s₀ from h = record { rule = refl; few = omega arith; inner = h }
+members-begins b s₀ from h = record { rule = refl; few = omega arith; inner = h }
 
-module _ (b s₀ : List ℕ) {from at k : ℕ} {sofar : Rule} (g : Going b s₀ from at k sofar) where
+module _ (b s₀ : List ℕ) {from at k : ℕ} {sofar : Rule} (g : MembersGoing b s₀ from at k sofar) where
   -- no track is left
-  pub going-ends : restOf b k at ≡ [] → sofar ≡ allOf b s₀ from
+  pub members-ends : restOf b k at ≡ [] → sofar ≡ allOf b s₀ from
   unfolding rulings agree
-  going-ends e =
+  members-ends e =
       sym
       (g .rule
       ∙ ap (λ (ss : List (List ℕ)). rulings k ss then (sofar then agree s₀ k ss)) e
@@ -77,27 +77,27 @@ module _ (b s₀ : List ℕ) {from at k : ℕ} {sofar : Rule} (g : Going b s₀ 
       ∙ then-last sofar)
 
   module _ (s : List ℕ) (next : ℕ) (e : restOf b k at ≡ s ∷ restOf b (k + 1) next) where
-    step : allOf b s₀ from
+    members-step : allOf b s₀ from
         ≡ ((ofTrack k (ruling s) then rulings (k + 1) (restOf b (k + 1) next))
         then (sofar then (ofTrack k (agrees s₀ s) then agree s₀ (k + 1) (restOf b (k + 1) next))))
     unfolding rulings agree
-    step = g .rule ∙ ap (λ (ss : List (List ℕ)). rulings k ss then (sofar then agree s₀ k ss)) e
+    members-step = g .rule ∙ ap (λ (ss : List (List ℕ)). rulings k ss then (sofar then agree s₀ k ss)) e
 
     -- the track breaks a rule by itself
-    pub going-breaks : {n t p : ℕ} → ruling s ≡ Breaks n t p → Breaks n k p ≡ allOf b s₀ from
+    pub members-breaks : {n t p : ℕ} → ruling s ≡ Breaks n t p → Breaks n k p ≡ allOf b s₀ from
     unfolding ofTrack
-    going-breaks f = sym (step ∙ then-breaks _ (then-breaks _ (ap (ofTrack k) f)))
+    members-breaks f = sym (members-step ∙ then-breaks _ (then-breaks _ (ap (ofTrack k) f)))
 
     -- it holds by itself
-    pub going-on : {sofar′ : Rule} → ruling s ≡ Holds → sofar′ ≡ (sofar then ofTrack k (agrees s₀ s)) → k < recordLimit → next ≤ length b
-        → Going b s₀ from next (k + 1) sofar′
+    pub members-on : {sofar′ : Rule} → ruling s ≡ Holds → sofar′ ≡ (sofar then ofTrack k (agrees s₀ s)) → k < recordLimit → next ≤ length b
+        → MembersGoing b s₀ from next (k + 1) sofar′
     unfolding ofTrack
-    going-on {sofar′} f i h m =
+    members-on {sofar′} f i h m =
         let rest = agree s₀ (k + 1) (restOf b (k + 1) next) in
         let own = rulings (k + 1) (restOf b (k + 1) next) in
         record {
           rule =
-              step
+              members-step
               ∙ ap (λ (r : Rule). r then (sofar then (ofTrack k (agrees s₀ s) then rest))) (then-holds own (ap (ofTrack k) f))
               ∙ ap (λ (r : Rule). own then r) (sym (then-assoc sofar (ofTrack k (agrees s₀ s)) rest) ∙ ap (λ (r : Rule). r then rest) (sym i));
           few = omega arith;

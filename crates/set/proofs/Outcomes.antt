@@ -36,9 +36,9 @@ first-is b e f = tracks-are b ∙ rest-part b 0 0 (omega arith) e f
 
 module _ (b t : List ℕ) where
   -- over the byte limit
-  pub too-long : byteLimit < length b → refused 1 0 0 t ≡ setOutcome b t
+  pub bundle-over-limit : byteLimit < length b → refused 1 0 0 t ≡ setOutcome b t
   unfolding setOutcome bundleRuling rule1
-  too-long h = rw (then-breaks _ (must-false 1 0 (lt-leb (length b) byteLimit h)))
+  bundle-over-limit h = rw (then-breaks _ (must-false 1 0 (lt-leb (length b) byteLimit h)))
 
   module _ (h : length b ≤ byteLimit) where
     short : rule1 (length b) ≡ Holds
@@ -77,6 +77,6 @@ module _ (b t : List ℕ) where
           others-break i j = rw (others-decide ∙ sym i ∙ j)
 
           -- every rule holds
-          pub all-hold : {r : Rule} → r ≡ allOf b s₀ from → r ≡ Holds → roomFor (fragmentCount s₀) (timescale s₀) (boundaries s₀) t ≡ setOutcome b t
+          pub set-accepts : {r : Rule} → r ≡ allOf b s₀ from → r ≡ Holds → roomFor (fragmentCount s₀) (timescale s₀) (boundaries s₀) t ≡ setOutcome b t
           unfolding setOutcome
-          all-hold i j = rw (others-decide ∙ sym i ∙ j, f)
+          set-accepts i j = rw (others-decide ∙ sym i ∙ j, f)

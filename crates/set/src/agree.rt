@@ -9,9 +9,9 @@ ghost use Rattle.track.specs.Course.{endOfTrack, Known};
 ghost use Rattle.set.specs.Says.{sameEnd};
 use rules::Previous;
 use rules::Rule;
+use rules::TrackFacts;
 use rules::first_broken;
 use rules::must;
-use track::TrackFacts;
 use track::cursor::Cursor;
 use track::cursor::next_fragment;
 

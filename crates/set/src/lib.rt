@@ -12,11 +12,11 @@ ghost use Rattle.track.specs.Course.{Known};
 ghost use Rattle.set.specs.Says.{allOf};
 use bundle::Bundled;
 use framing::BYTE_LIMIT;
+use rules::Judged;
 use rules::Mark;
 use rules::Rule;
+use rules::TrackFacts;
 use rules::Verdict;
-use track::Judged;
-use track::TrackFacts;
 
 pub mod agree;
 
@@ -73,33 +73,33 @@ fn members(b: &[u8], t: &mut [u64]) -> Verdict
 {
     let mark = bundle::record_at(b, 0);
     let Mark::Track(n) = mark else {
-        return track::refused(24, 0, 0);
+        return rules::refusal(24, 0, 0);
     };
     let a = 6;
     let e = a + n;
     let s0 = &b[a..e];
     match track::judge(s0) {
-        Judged::Refused { number, place, .. } => track::refused(number, 0, place),
+        Judged::Refused { number, place, .. } => rules::refusal(number, 0, place),
         Judged::Accepted(f0) => match others(b, e, s0, f0) {
             Rule::Breaks {
                 number,
                 track,
                 place,
-            } => track::refused(number, track, place),
+            } => rules::refusal(number, track, place),
             Rule::Holds => track::accept(s0, f0, t),
         },
     }
 }
 
 // The set job: the bundle framed whole, every track, every track beside track 0, then room, and the boundaries.
-pub fn check(b: &[u8], t: &mut [u64]) -> Verdict
+pub fn set_job(b: &[u8], t: &mut [u64]) -> Verdict
     ensures { λ r. ⌜ Permits setOutcome (now (b .entry)) (now (t .entry)) r (now (t .exit)) ⌝ }
 {
     if BYTE_LIMIT < b.len() {
-        return track::refused(1, 0, 0);
+        return rules::refusal(1, 0, 0);
     }
-    match bundle::frame(b) {
-        Bundled::Broken { track, place } => track::refused(24, track, place),
-        Bundled::Records(_) => members(b, t),
+    match bundle::frame_records(b) {
+        Bundled::Broken { track, place } => rules::refusal(24, track, place),
+        Bundled::Good(_) => members(b, t),
     }
 }

@@ -6,7 +6,7 @@ use lib.Dec.{eqb}
 use lib.ListN.{length, set, getD}
 use Rattle.rules.specs.Bytes.{zeros, boxed, header, fragment, trackT}
 use Rattle.rules.specs.Computed.{computed}
-use Rattle.rules.specs.Examples.{free, nines, refusal, acceptance}
+use Rattle.rules.specs.Examples.{free, nines, refusedAt, acceptance}
 use Rattle.rules.specs.Jobs.{Job, Shut, Dummy, writes-past, Shown}
 use Rattle.rules.specs.Track.{Outcome, accepted, boundaries, trackOutcome}
 use Rattle.rules.proofs.Jobs.{shut, left-past}
@@ -24,12 +24,12 @@ half-is : trackOutcome half nines ≡ accepted 1 90000 (0 ∷ 180000 ∷ []) nin
 unfolding computed half
 half-is = refl
 
-none-is : trackOutcome [] nines ≡ refusal 6 0
-unfolding computed refusal
+none-is : trackOutcome [] nines ≡ refusedAt 6 0
+unfolding computed refusedAt
 none-is = refl
 
 shown : Shown trackOutcome
-unfolding computed half acceptance refusal
+unfolding computed half acceptance refusedAt
 shown =
     record {
       good = trackT;

@@ -9,48 +9,50 @@ use Rattle.rules.specs.Limits.{byteLimit}
 use Rattle.rules.specs.Boxes.{Box, look, boxes, forest}
 use Rattle.rules.specs.Framing.{framing, framed, framingRule}
 use Rattle.rules.specs.Track.{rule1, ruling}
+use Rattle.rules.specs.Course.{judgedBy, andBox, courseFrom, courseEnd, courseOf, factsOf, judgement}
+use Rattle.rules.specs.declared.Course.{Course}
+use Rattle.rules.specs.declared.Course.the-variants.{On}
 use Rattle.rules.specs.declared.Framing.the-variants.{Framed, Misframed}
-use Rattle.rules.specs.declared.Look.the-variants.{Header}
+use Rattle.rules.specs.declared.Judged.{Judged}
+use Rattle.rules.specs.declared.Judged.the-variants.{Refused}
+use Rattle.rules.specs.declared.Look.the-variants.{Good}
 use Rattle.rules.specs.declared.Path.the-variants.{Top}
+use Rattle.rules.specs.declared.Reached.the-variants.{Start}
 use Rattle.rules.specs.declared.Rule.{Rule}
 use Rattle.rules.specs.declared.Rule.the-variants.{Holds}
 use Rattle.rules.proofs.Forest.{look-found, boxes-box}
+use Rattle.rules.proofs.OnePass.{one-pass}
 use Rattle.rules.proofs.Then.{then-holds, then-breaks, must-true, must-false}
 use Rattle.boxes.proofs.Stands.{stands-here}
-use Rattle.track.specs.Course.{judgedBy, after, courseFrom, ended, courseOf, factsOf, judgement, Fits}
-use Rattle.track.specs.declared.Judged.{Judged}
-use Rattle.track.specs.declared.Judged.the-variants.{Refused}
-use Rattle.track.specs.declared.course.Course.{Course}
-use Rattle.track.specs.declared.course.Course.the-variants.{Start}
-use Rattle.track.proofs.OnePass.{one-pass}
-use Rattle.track.proofs.Stepping.{judged-breaks, fits-after}
+use Rattle.track.specs.Course.{Fits}
+use Rattle.track.proofs.Stepping.{judged-breaks, fits-box}
 
 -- the walk stands at a place, after n boxes, with a course: the whole comes to what is left
-pub record Going (s : List ℕ) (at n : ℕ) (c : Course) : Type 0 where
+pub record Walking (s : List ℕ) (at n : ℕ) (c : Course) : Type 0 where
   pub framing : framed s ≡ framing (forest Top s at) 0 n
-  pub course : courseFrom s Start (boxes s 0) ≡ courseFrom s c (boxes s at)
+  pub course : courseFrom s (On Start) (boxes s 0) ≡ courseFrom s c (boxes s at)
   pub fits : Fits s c at
   pub inner : at ≤ length s
 
-pub going-begins : (s : List ℕ) → Going s 0 0 Start
-going-begins s = record { framing = refl; course = refl; fits = tt; inner = omega arith }
+pub walking-begins : (s : List ℕ) → Walking s 0 0 (On Start)
+walking-begins s = record { framing = refl; course = refl; fits = tt; inner = omega arith }
 
 -- over the byte limit
-pub too-long : (s : List ℕ) → byteLimit < length s → Refused 1 0 0 ≡ judgement s
+pub over-limit : (s : List ℕ) → byteLimit < length s → Refused 1 0 0 ≡ judgement s
 unfolding judgement ruling rule1
-too-long s h = sym (judged-breaks (factsOf s) (then-breaks _ (must-false 1 0 (lt-leb (length s) byteLimit h))))
+over-limit s h = sym (judged-breaks (factsOf s) (then-breaks _ (must-false 1 0 (lt-leb (length s) byteLimit h))))
 
-module _ (s : List ℕ) {at n : ℕ} {c : Course} (g : Going s at n c) where
+module _ (s : List ℕ) {at n : ℕ} {c : Course} (g : Walking s at n c) where
   -- a box
-  pub going-on : {h z k m : ℕ} → framing (forest Top s at) 0 n ≡ framing (forest Top s (at + z)) 0 m → look s at ≡ Header h z k
-      → Going s (at + z) m (after s c (record { at = at; inner = h; size = z; kind = k }))
+  pub walking-on : {h z k m : ℕ} → framing (forest Top s at) 0 n ≡ framing (forest Top s (at + z)) 0 m → look s at ≡ Good h z k
+      → Walking s (at + z) m (andBox s c (record { at = at; inner = h; size = z; kind = k }))
   unfolding courseFrom
-  going-on {h} {z} {k} e l =
+  walking-on {h} {z} {k} e l =
       let x : Box = record { at = at; inner = h; size = z; kind = k } in
       record {
         framing = g .framing ∙ e;
         course = g .course ∙ ap (courseFrom s c) (boxes-box s at h z k l);
-        fits = fits-after s x (stands-here (look-found s at h z k l)) c (g .fits);
+        fits = fits-box s x (stands-here (look-found s at h z k l)) c (g .fits);
         inner = look-found s at h z k l .fits;
       }
 
@@ -60,15 +62,15 @@ module _ (s : List ℕ) {at n : ℕ} {c : Course} (g : Going s at n c) where
     short = must-true 1 0 (le-leb (length s) byteLimit h)
 
     -- no box is left
-    pub going-ends : framing (forest Top s at) 0 n ≡ Framed n → boxes s at ≡ [] → {r : Judged} → r ≡ ended (length s) c → r ≡ judgement s
+    pub walking-ends : framing (forest Top s at) 0 n ≡ Framed n → boxes s at ≡ [] → {r : Judged} → r ≡ courseEnd (length s) c → r ≡ judgement s
     unfolding courseFrom courseOf judgement ruling
-    going-ends e l w =
+    walking-ends e l w =
         w
-        ∙ ap (ended (length s)) (sym (g .course ∙ ap (courseFrom s c) l))
+        ∙ ap (courseEnd (length s)) (sym (g .course ∙ ap (courseFrom s c) l))
         ∙ one-pass s
         ∙ ap (λ (r : Rule). judgedBy r (factsOf s)) (sym (then-holds _ short ∙ then-holds _ (ap framingRule (g .framing ∙ e))))
 
     -- a box is misframed
-    pub going-breaks : {k p : ℕ} → framing (forest Top s at) 0 n ≡ Misframed k p → Refused k 0 p ≡ judgement s
+    pub walking-breaks : {k p : ℕ} → framing (forest Top s at) 0 n ≡ Misframed k p → Refused k 0 p ≡ judgement s
     unfolding judgement ruling
-    going-breaks e = sym (judged-breaks (factsOf s) (then-holds _ short ∙ then-breaks _ (ap framingRule (g .framing ∙ e))))
+    walking-breaks e = sym (judged-breaks (factsOf s) (then-holds _ short ∙ then-breaks _ (ap framingRule (g .framing ∙ e))))

@@ -1,4 +1,3 @@
-pub mod OnePass
 pub mod OwnBytes
 pub mod Stepping
 pub mod Judging

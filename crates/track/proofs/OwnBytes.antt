@@ -11,7 +11,7 @@ use Rattle.numbers.specs.Numbers.{be4, be8, when}
 use Rattle.numbers.proofs.Bounds.{Reads, reads4, reads8, in-take, in-drop}
 use Rattle.rules.specs.Boxes.{headOf, sizeOf, whole}
 use Rattle.boxes.specs.Stands.{Stands, Whole}
-use Rattle.boxes.specs.declared.Spot.{Spot}
+use Rattle.rules.specs.declared.Spot.{Spot}
 
 module _ (s : List ℕ) (b : Spot) (d : Stands s b) (e : ℕ) (q : b .at + b .size ≡ e) where
   -- they are the box's bytes
@@ -23,18 +23,18 @@ module _ (s : List ℕ) (b : Spot) (d : Stands s b) (e : ℕ) (q : b .at + b .si
   pub own-length : length (take (e - b .at) (drop (b .at) s)) ≡ b .size
   own-length = simp (length-take, length-drop) (omega (arith, d .fits))
 
-  read : {n : ℕ} {f : List ℕ → ℕ → ℕ} → Reads n f → (i : ℕ) → i + n ≤ b .size → f (take (e - b .at) (drop (b .at) s)) i ≡ f s (b .at + i)
-  read r i h = in-take r (e - b .at) (drop (b .at) s) i (omega arith) ∙ in-drop r (b .at) s i
+  own-read : {n : ℕ} {f : List ℕ → ℕ → ℕ} → Reads n f → (i : ℕ) → i + n ≤ b .size → f (take (e - b .at) (drop (b .at) s)) i ≡ f s (b .at + i)
+  own-read r i h = in-take r (e - b .at) (drop (b .at) s) i (omega arith) ∙ in-drop r (b .at) s i
 
   -- and are one box with the same header
   pub own-whole : Whole (take (e - b .at) (drop (b .at) s)) (b .head)
   unfolding headOf sizeOf
   own-whole =
       let m = take (e - b .at) (drop (b .at) s) in
-      let short : be4 m 0 ≡ be4 s (b .at) = read reads4 0 (omega (arith, d .low, d .holds)) ∙ ap (be4 s) (add-zero (b .at)) in
+      let short : be4 m 0 ≡ be4 s (b .at) = own-read reads4 0 (omega (arith, d .low, d .holds)) ∙ ap (be4 s) (add-zero (b .at)) in
       let by : (t : Bool) → eqb (be4 s (b .at)) 1 ≡ t → when (eqb (be4 s (b .at)) 1) (be8 m 8) (be4 m 0) ≡ b .size
       = elim [
-        | true ↦ λ y. rw y (read reads8 8 (omega (arith, d .holds, rw y at (d .head))) ∙ rw y at (d .size))
+        | true ↦ λ y. rw y (own-read reads8 8 (omega (arith, d .holds, rw y at (d .head))) ∙ rw y at (d .size))
         | false ↦ λ y. rw y (short ∙ rw y at (d .size))
       ] in
       record {

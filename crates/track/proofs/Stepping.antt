@@ -1,5 +1,5 @@
 -- Laws of one box more: the header and a fragment by what their own checks answer, and what a course fits.
-use mathlib.Core.Path.{_≡_, refl, sym, ap, _∙_}
+use mathlib.Core.Path.{_≡_, refl, sym, ap, subst, _∙_}
 use mathlib.Core.List.{List}
 use mathlib.Core.Bool.{Bool, true, false, not, true≢false}
 use Prim.Native.Nat.{ℕ, _+_, _-_, _≤_}
@@ -7,29 +7,36 @@ use native.Mathlib.Omega.{arith}
 use lib.ListN.{length}
 use lib.Dec.{eqb}
 use Rattle.numbers.specs.Numbers.{when}
-use Rattle.rules.specs.Kinds.{ftyp, moov, moof, mdat}
+use Rattle.rules.specs.Kinds.{ftyp, mdat}
 use Rattle.rules.specs.Rules.{_then_, moved}
 use Rattle.rules.specs.Boxes.{Box, whole}
-use Rattle.rules.specs.Order.{ordered}
-use Rattle.rules.specs.Header.{headerRules, ftypIn}
+use Rattle.rules.specs.Order.{ordered, awaits, step6, onStepped}
+use Rattle.rules.specs.Header.{headerRules}
 use Rattle.rules.specs.Fragment.{shape, timing, endOf}
 use Rattle.rules.specs.Track.{mdatAt, shapeAt, timingAt, endAt}
+use Rattle.rules.specs.Course.{judgedBy, openedFacts, opened, grown, joined, stageOf, spotOf, brought, andBox}
+use Rattle.rules.specs.declared.Course.{Course}
+use Rattle.rules.specs.declared.Course.the-variants.{On, Broken}
 use Rattle.rules.specs.declared.Ftyp.{Ftyp}
+use Rattle.rules.specs.declared.Judged.{Judged}
+use Rattle.rules.specs.declared.Judged.the-variants.{Accepted, Refused}
 use Rattle.rules.specs.declared.Previous.the-variants.{Unset, End}
+use Rattle.rules.specs.declared.Reached.{Reached}
+use Rattle.rules.specs.declared.Reached.the-variants.{Start, Typed, Headed, Halved, Paired}
 use Rattle.rules.specs.declared.Rule.{Rule}
 use Rattle.rules.specs.declared.Rule.the-variants.{Holds, Breaks}
+use Rattle.rules.specs.declared.Spot.{Spot}
+use Rattle.rules.specs.declared.Stage.{Stage}
+use Rattle.rules.specs.declared.Stage.the-variants as stage
+use Rattle.rules.specs.declared.Stepped.{Stepped}
+use Rattle.rules.specs.declared.Stepped.the-variants.{To, Wrong}
+use Rattle.rules.specs.declared.TrackFacts.{TrackFacts}
+use Rattle.rules.proofs.OnePass.{spoken}
 use Rattle.rules.proofs.Then.{moved-then, moved-holds, moved-breaks}
 use Rattle.boxes.specs.Stands.{Stands}
-use Rattle.boxes.specs.declared.Spot.{Spot}
 use Rattle.header.specs.Answers.{FactsIn}
 use Rattle.header.specs.declared.HeaderFacts.{HeaderFacts}
-use Rattle.track.specs.Course.{judgedBy, openedFacts, opened, grown, joined, passing, awaiting, spotOf, boxOf, after, Few, Fits, saysPasses}
-use Rattle.track.proofs.OnePass.{unspoken}
-use Rattle.track.specs.declared.TrackFacts.{TrackFacts}
-use Rattle.track.specs.declared.Judged.{Judged}
-use Rattle.track.specs.declared.Judged.the-variants.{Accepted, Refused}
-use Rattle.track.specs.declared.course.Course.{Course}
-use Rattle.track.specs.declared.course.Course.the-variants.{Start, Typed, Headed, Halved, Paired, Broken}
+use Rattle.track.specs.Course.{boxOf, Few, Fits, Stops, saysPasses}
 
 -- a rule that holds, and one that breaks
 judged-holds : {r : Rule} {f : TrackFacts} → r ≡ Holds → judgedBy r f ≡ Accepted f
@@ -55,18 +62,18 @@ module _ (s : List ℕ) (f : Ftyp) (at : ℕ) (m : List ℕ) (e : m ≡ whole s 
 module _ (s : List ℕ) (f : TrackFacts) (b d : Spot) (m : List ℕ) (e : m ≡ whole s (b .at)) (l : length m ≡ b .size)
     (i : b .at + b .size ≡ d .at) (w : Stands s d) where
   -- its rules
-  abbrev own : Rule
-  own = shape m (f .header .id) then timing m (f .header .defaults) (d .head) (d .size - d .head) (f .end)
+  abbrev own-rules : Rule
+  own-rules = shape m (f .header .id) then timing m (f .header .defaults) (d .head) (d .size - d .head) (f .end)
 
-  mdat-is : mdatAt s (b .at) ≡ d .at
+  mdat-next : mdatAt s (b .at) ≡ d .at
   unfolding mdatAt
-  mdat-is = ap (λ (n : ℕ). b .at + n) (ap length (sym e) ∙ l) ∙ i
+  mdat-next = ap (λ (n : ℕ). b .at + n) (ap length (sym e) ∙ l) ∙ i
 
-  rules-are : (shapeAt s (f .header) (b .at) then timingAt s (f .header) (f .end) (b .at)) ≡ moved (b .at) own
+  rules-are : (shapeAt s (f .header) (b .at) then timingAt s (f .header) (f .end) (b .at)) ≡ moved (b .at) own-rules
   unfolding shapeAt timingAt
-  rules-are = rw (mdat-is, w .head, w .size, ← e) (sym (moved-then (b .at) _ _))
+  rules-are = rw (mdat-next, w .head, w .size, ← e) (sym (moved-then (b .at) _ _))
 
-  pub fragment-good : (end : ℕ) → own ≡ Holds → end ≡ endOf m (f .header .defaults)
+  pub fragment-good : (end : ℕ) → own-rules ≡ Holds → end ≡ endOf m (f .header .defaults)
       → Accepted (record { header = f .header; mdhd = f .mdhd; hdlr = f .hdlr; fragments = f .fragments + 1; end = End end })
       ≡ joined s (Accepted f) (b .at)
   unfolding joined grown endAt
@@ -76,7 +83,7 @@ module _ (s : List ℕ) (f : TrackFacts) (b d : Spot) (m : List ℕ) (e : m ≡ 
       (k ∙ ap (λ (w : List ℕ). endOf w (f .header .defaults)) e)
       ∙ sym (judged-holds (rules-are ∙ moved-holds (b .at) h))
 
-  pub fragment-bad : {n t p : ℕ} → own ≡ Breaks n t p → Refused n t (b .at + p) ≡ joined s (Accepted f) (b .at)
+  pub fragment-bad : {n t p : ℕ} → own-rules ≡ Breaks n t p → Refused n t (b .at + p) ≡ joined s (Accepted f) (b .at)
   unfolding joined
   fragment-bad h = sym (judged-breaks (grown s f (b .at)) (rules-are ∙ moved-breaks (b .at) h))
 
@@ -102,67 +109,93 @@ few-opened s f x b = by (headerRules x f (whole s x))
     by Holds = omega arith
     by (Breaks n t p) = tt
 
+-- what a stage fits, fits after the box that it awaits
+fits-brought : (s : List ℕ) (b : Spot) → Stands s b → (c : Reached) → Fits s (On c) (b .at) → Fits s (On (brought s c b)) (b .at + b .size)
+unfolding brought
+fits-brought s b w Start h = tt
+fits-brought s b w (Typed f) h = few-opened s f (b .at) (b .at + b .size)
+fits-brought s b w (Headed j) h = (few-later j (b .at) (b .at + b .size) (omega arith) h, w, refl)
+fits-brought s b w (Halved j m) h = few-more s j (m .at) (b .at) (b .at + b .size) (omega (arith, w .low, w .holds)) (h .0)
+fits-brought s b w (Paired j) h = (few-later j (b .at) (b .at + b .size) (omega arith) h, w, refl)
+
 -- a course that fits, fits after one box more
 module _ (s : List ℕ) (x : Box) (w : Stands s (spotOf x)) where
-  fits-passing : (c : Course) → Fits s c (x .at + x .size) → Fits s (passing c x) (x .at + x .size)
-  unfolding passing
-  fits-passing c h = by (ordered (x .kind))
+  fits-step : (c : Reached) → Fits s (On c) (x .at) → Fits s (On c) (x .at + x .size) → (p : Stepped) (o : Bool)
+      → Fits s (onStepped p (λ g. On (when o (brought s c (spotOf x)) c)) (Broken (x .at))) (x .at + x .size)
+  fits-step c h l Wrong o = tt
+  fits-step c h l (To g) true = fits-brought s (spotOf x) w c h
+  fits-step c h l (To g) false = l
+
+  pub fits-box : (c : Course) → Fits s c (x .at) → Fits s (andBox s c x) (x .at + x .size)
+  unfolding andBox step6
+  fits-box (On Start) h = fits-step Start h tt (step6 stage.Start (x .kind)) (ordered (x .kind))
+  fits-box (On (Typed f)) h = fits-step (Typed f) h tt (step6 stage.Typed (x .kind)) (ordered (x .kind))
+  fits-box (On (Headed j)) h =
+      fits-step (Headed j) h (few-later j (x .at) (x .at + x .size) (omega arith) h) (step6 stage.Headed (x .kind)) (ordered (x .kind))
+  fits-box (On (Halved j m)) h = by (eqb (x .kind) mdat) refl
     where
-      by : (o : Bool) → Fits s (when o (Broken (x .at)) c) (x .at + x .size)
-      by true = tt
-      by false = h
+      by : (t : Bool) → eqb (x .kind) mdat ≡ t
+          → Fits s
+          (onStepped (when t (To stage.Paired) Wrong) (λ g. On (when (ordered (x .kind)) (brought s (Halved j m) (spotOf x)) (Halved j m))) (Broken (x .at)))
+          (x .at + x .size)
+      by true e = rw (spoken (x .kind) .3 e) (fits-brought s (spotOf x) w (Halved j m) h)
+      by false e = tt
+  fits-box (On (Paired j)) h =
+      fits-step (Paired j) h (few-later j (x .at) (x .at + x .size) (omega arith) h) (step6 stage.Paired (x .kind)) (ordered (x .kind))
+  fits-box (Broken p) h = tt
 
-  fits-awaiting : (c : Course) (j : Judged) → Few j (x .at) → Fits s c (x .at + x .size) → Fits s (awaiting c j x) (x .at + x .size)
-  unfolding awaiting
-  fits-awaiting c j k h = by (eqb (x .kind) moof)
-    where
-      by : (t : Bool) → Fits s (when t (Halved j (spotOf x)) (passing c x)) (x .at + x .size)
-      by true = (few-later j (x .at) (x .at + x .size) (omega arith) k, w, refl)
-      by false = fits-passing c h
+-- a box after a stage, by what rule 6 answers
+module _ (c : Reached) (k : ℕ) {p : Stepped} (e : p ≡ step6 (stageOf c) k) where
+  -- one that may not stand there
+  pub box-wrong : p ≡ Wrong → (s : List ℕ) (b : Spot) → Broken (b .at) ≡ andBox s (On c) (boxOf b k)
+  unfolding andBox
+  box-wrong w s b = rw (sym e ∙ w)
 
-  pub fits-after : (c : Course) → Fits s c (x .at) → Fits s (after s c x) (x .at + x .size)
-  unfolding after
-  fits-after Start h = by (eqb (x .kind) ftyp)
-    where
-      by : (t : Bool) → Fits s (when t (Typed (ftypIn (whole s (x .at)))) (Broken (x .at))) (x .at + x .size)
-      by true = tt
-      by false = tt
-  fits-after (Typed f) h = by (eqb (x .kind) moov)
-    where
-      by : (t : Bool) → Fits s (when t (Headed (opened s f (x .at))) (passing (Typed f) x)) (x .at + x .size)
-      by true = few-opened s f (x .at) (x .at + x .size)
-      by false = fits-passing (Typed f) tt
-  fits-after (Headed j) h = fits-awaiting (Headed j) j h (few-later j (x .at) (x .at + x .size) (omega arith) h)
-  fits-after (Halved j m) h = by (eqb (x .kind) mdat)
-    where
-      by : (t : Bool) → Fits s (when t (Paired (joined s j (m .at))) (Broken (x .at))) (x .at + x .size)
-      by true = few-more s j (m .at) (x .at) (x .at + x .size) (omega (arith, w .low, w .holds)) (h .0)
-      by false = tt
-  fits-after (Paired j) h = fits-awaiting (Paired j) j h (few-later j (x .at) (x .at + x .size) (omega arith) h)
-  fits-after (Broken p) h = tt
+  -- the awaited one
+  pub box-brought : {h : Stage} → p ≡ To h → ordered k ≡ true → (s : List ℕ) (b : Spot) → On (brought s c b) ≡ andBox s (On c) (boxOf b k)
+  unfolding andBox
+  box-brought w o s b = rw (sym e ∙ w, o)
 
--- a box that the order doesn't speak of is passed over where `moov` or a `moof` is awaited
-pub passes-typed : (f : Ftyp) (k : ℕ) (o : Bool) → o ≡ ordered k → saysPasses (not o) (Typed f) k
-unfolding after passing
-passes-typed f k true e = tt
-passes-typed f k false e = λ s b. rw (unspoken k (sym e) .0, ← e)
+-- a step that leads to a stage
+abbrev LeadsSomewhere : Stepped → Type 0
+LeadsSomewhere (To g) = Unit {0}
+LeadsSomewhere Wrong = ⊥
 
-pub passes-headed : (j : Judged) (k : ℕ) (o : Bool) → o ≡ ordered k → saysPasses (not o) (Headed j) k
-unfolding after awaiting passing
-passes-headed j k true e = tt
-passes-headed j k false e = λ s b. rw (unspoken k (sym e) .1, ← e)
+-- where no other box may stand, one that may is one that the order speaks of
+pub start-spoken : (k : ℕ) {p : Stepped} {h : Stage} → p ≡ step6 stage.Start k → p ≡ To h → ordered k ≡ true
+unfolding step6
+start-spoken k {p} {h} e w = by (eqb k ftyp) refl (sym e ∙ w)
+  where
+    by : (t : Bool) → eqb k ftyp ≡ t → when t (To stage.Typed) Wrong ≡ To h → ordered k ≡ true
+    by true q r = spoken k .0 q
+    by false q r = absurd (subst LeadsSomewhere (sym r) tt)
 
-pub passes-paired : (j : Judged) (k : ℕ) (o : Bool) → o ≡ ordered k → saysPasses (not o) (Paired j) k
-unfolding after awaiting passing
-passes-paired j k true e = tt
-passes-paired j k false e = λ s b. rw (unspoken k (sym e) .1, ← e)
+pub halved-spoken : (k : ℕ) {p : Stepped} {h : Stage} → p ≡ step6 stage.Halved k → p ≡ To h → ordered k ≡ true
+unfolding step6
+halved-spoken k {p} {h} e w = by (eqb k mdat) refl (sym e ∙ w)
+  where
+    by : (t : Bool) → eqb k mdat ≡ t → when t (To stage.Paired) Wrong ≡ To h → ordered k ≡ true
+    by true q r = spoken k .3 q
+    by false q r = absurd (subst LeadsSomewhere (sym r) tt)
 
--- where the order is broken every box is
+-- where others may stand, a box that the order doesn't speak of is passed over
+pub passes-loose : (k : ℕ) (o : Bool) → o ≡ ordered k → (c : Reached) (w : ℕ) (n : Stage) → step6 (stageOf c) k ≡ awaits w n (stageOf c) k
+    → (ordered k ≡ false → eqb k w ≡ false) → (ordered k ≡ true → Stops (On c) k) → saysPasses (not o) (On c) k
+unfolding andBox awaits
+passes-loose k true e c w n q f g = g (sym e)
+passes-loose k false e c w n q f g = λ s b. rw (q, f (sym e), ← e)
+
+-- where the order is broken every box is passed over
 pub passes-broken : (p k : ℕ) → saysPasses true (Broken p) k
-unfolding after
+unfolding andBox
 passes-broken p k = λ s b. refl
 
+-- a box that is not passed over stops the course
+pub stopped : (o : Bool) (c : Course) (k : ℕ) → saysPasses o c k → not o ≡ true → Stops c k
+stopped true c k h e = absurd (true≢false (sym e))
+stopped false c k h e = h
+
 -- a box that is passed over leaves a course as it is
-pub passed-over : (o : Bool) (c : Course) (k : ℕ) → saysPasses o c k → not o ≡ false → (s : List ℕ) (b : Spot) → after s c (boxOf b k) ≡ c
+pub passed-over : (o : Bool) (c : Course) (k : ℕ) → saysPasses o c k → not o ≡ false → (s : List ℕ) (b : Spot) → andBox s c (boxOf b k) ≡ c
 passed-over true c k h e = h
 passed-over false c k h e = absurd (true≢false e)

@@ -5,58 +5,38 @@ use Prim.Native.Nat.{ℕ, suc, _+_, _≤_, _<_}
 use native.Mathlib.Nat.{zero-add}
 use native.Mathlib.Numerals.{add-one}
 use native.Mathlib.Omega.{arith}
-use lib.ListN.{length, drop, set, length-set, length-append}
+use lib.ListN.{length, drop, set, length-set}
 use lib.Seq.{sets, sets-eq}
 use borrow.Author.Tests.{lt-ltb, le-ltb, leb-true}
 use Rattle.rules.specs.Limits.{byteLimit}
-use Rattle.rules.specs.Track.{rule1, Outcome, ruling, timescale, roomFor, refused, accepted, trackOutcome, headerOf, fragments, fragmentsFrom, fragmentCount, startAt, endAt, lastEnd, ticks, boundaries}
-use Rattle.rules.specs.declared.Header.{Header}
+use Rattle.rules.specs.Track.{rule1, Outcome, ruling, timescale, roomFor, refused, accepted, trackOutcome, fragments, fragmentsFrom, fragmentCount, startAt, endList, ticks, boundaries}
+use Rattle.rules.specs.Course.{judgedBy, factsOf, judgement}
+use Rattle.rules.specs.declared.Judged.the-variants.{Accepted, Refused}
 use Rattle.rules.specs.declared.Previous.{Previous}
-use Rattle.rules.specs.declared.Previous.the-variants.{Unset, End}
 use Rattle.rules.specs.declared.Rule.{Rule}
 use Rattle.rules.specs.declared.Rule.the-variants.{Holds, Breaks}
+use Rattle.rules.specs.declared.TrackFacts.{TrackFacts}
 use Rattle.rules.specs.declared.Verdict.{Verdict}
+use Rattle.rules.proofs.Boundaries.{boundaries-length}
 use Rattle.rules.proofs.Sound.{accepted-keeps}
 use Rattle.rules.proofs.Then.{must-holds}
 use Rattle.rules.proofs.Walk.{some-fragment}
-use Rattle.track.specs.Course.{judgedBy, endFrom, endOfTrack, factsOf, judgement, Known}
-use Rattle.track.specs.Cursor.{NextAt, endList}
-use Rattle.track.specs.declared.TrackFacts.{TrackFacts}
-use Rattle.track.specs.declared.Judged.the-variants.{Accepted, Refused}
+use Rattle.track.specs.Course.{endOfTrack, Known}
+use Rattle.track.specs.Cursor.{NextAt}
 
 -- each start, and the last end, if there is one
 unfoldable pub written : List ℕ → Previous → List ℕ → List ℕ
 written s end xs = map (startAt s) xs ++ endList end
 
--- the last end of fragments of which one is first
-pub end-last : (s : List ℕ) (h : Header) (x : ℕ) (xs : List ℕ) → endFrom s h (End (endAt s h x)) xs ≡ End (lastEnd s h x xs)
-unfolding endFrom lastEnd
-end-last s h x [] = refl
-end-last s h x (y ∷ ys) = end-last s h y ys
-
-all-ticks : (s : List ℕ) (h : Header) (xs : List ℕ) → ticks s h xs ≡ written s (endFrom s h Unset xs) xs
-unfolding ticks written endFrom
-all-ticks s h [] = refl
-all-ticks s h (x ∷ xs) = ap (λ (e : Previous). map (startAt s) (x ∷ xs) ++ endList e) (sym (end-last s h x xs))
-
 -- the boundaries of a track
 pub boundaries-written : (s : List ℕ) → boundaries s ≡ written s (endOfTrack s) (fragments s)
-unfolding boundaries endOfTrack
-boundaries-written s = all-ticks s (headerOf s) (fragments s)
-
-ticks-length : (s : List ℕ) (h : Header) (xs : List ℕ) → 1 ≤ length xs → length (ticks s h xs) ≡ length xs + 1
-unfolding ticks
-ticks-length s h [] n = absurd (omega arith)
-ticks-length s h (x ∷ xs) n = simp length-append (omega (arith, maps xs))
-  where
-    maps : (ys : List ℕ) → length (map (startAt s) ys) ≡ length ys
-    maps [] = refl
-    maps (y ∷ ys) = ap suc (maps ys)
+unfolding boundaries ticks written
+boundaries-written s = refl
 
 -- an accepted track has a fragment, and one boundary more than fragments
 pub length-boundaries : (s : List ℕ) → ruling s ≡ Holds → length (boundaries s) ≡ fragmentCount s + 1
-unfolding boundaries fragmentCount
-length-boundaries s r = ticks-length s (headerOf s) (fragments s) (some-fragment s (accepted-keeps s r .0 .2))
+unfolding fragmentCount
+length-boundaries s r = omega (arith, boundaries-length s (some-fragment s (accepted-keeps s r .0 .2)))
 
 -- the table t, written up to k, comes to the whole with what is left
 pub record Writing (s t₀ : List ℕ) (end : Previous) (at k : ℕ) (t : List ℕ) : Type 0 where
@@ -156,9 +136,9 @@ module _ (s t : List ℕ) (f : TrackFacts) (k : Known s f) where
   known-rest h = (known-short s f k, known-end s f k, omega (arith, long))
 
   -- 23: the table is too short
-  pub no-room : length t ≤ f .fragments → refused 23 0 0 t ≡ roomFor (fragmentCount s) (timescale s) (boundaries s) t
+  pub table-short : length t ≤ f .fragments → refused 23 0 0 t ≡ roomFor (fragmentCount s) (timescale s) (boundaries s) t
   unfolding roomFor
-  no-room h = rw (lt-ltb (length t) (length (boundaries s)) (omega (arith, long)))
+  table-short h = rw (lt-ltb (length t) (length (boundaries s)) (omega (arith, long)))
 
   -- there is room
   pub room : f .fragments < length t → (t′ : List ℕ) → t′ ≡ boundaries s ++ drop (length (boundaries s)) t
@@ -170,27 +150,27 @@ module _ (s t : List ℕ) (f : TrackFacts) (k : Known s f) where
 
 -- what an answer says of the rules
 module _ (s : List ℕ) where
-  pub is-accepted : {f : TrackFacts} → Accepted f ≡ judgement s → Known s f
+  pub accepted-known : {f : TrackFacts} → Accepted f ≡ judgement s → Known s f
   unfolding judgement judgedBy
-  is-accepted {f} = by (ruling s) refl
+  accepted-known {f} = by (ruling s) refl
     where
       by : (r : Rule) → ruling s ≡ r → Accepted f ≡ judgedBy r (factsOf s) → Known s f
       by Holds e q = record { holds = e; facts = cc }
       by (Breaks n t p) e q = let z : _≡_ {A = ℕ} 0 1 = cc in absurd (omega arith)
 
-  pub is-refused : {n t p : ℕ} → Refused n t p ≡ judgement s → ruling s ≡ Breaks n t p
+  pub refused-broken : {n t p : ℕ} → Refused n t p ≡ judgement s → ruling s ≡ Breaks n t p
   unfolding judgement judgedBy
-  is-refused {n} {t} {p} = by (ruling s) refl
+  refused-broken {n} {t} {p} = by (ruling s) refl
     where
       by : (r : Rule) → ruling s ≡ r → Refused n t p ≡ judgedBy r (factsOf s) → ruling s ≡ Breaks n t p
       by Holds e q = let z : _≡_ {A = ℕ} 0 1 = cc in absurd (omega arith)
       by (Breaks a b c) e q = e ∙ (cc)
 
 -- the outcome of an accepted track, and of a refused one
-pub acceptance : (s t : List ℕ) → ruling s ≡ Holds → roomFor (fragmentCount s) (timescale s) (boundaries s) t ≡ trackOutcome s t
+pub track-accepted : (s t : List ℕ) → ruling s ≡ Holds → roomFor (fragmentCount s) (timescale s) (boundaries s) t ≡ trackOutcome s t
 unfolding trackOutcome
-acceptance s t e = rw e
+track-accepted s t e = rw e
 
-pub refusal : (s t : List ℕ) {n k p : ℕ} → ruling s ≡ Breaks n k p → refused n k p t ≡ trackOutcome s t
+pub track-refused : (s t : List ℕ) {n k p : ℕ} → ruling s ≡ Breaks n k p → refused n k p t ≡ trackOutcome s t
 unfolding trackOutcome
-refusal s t e = rw e
+track-refused s t e = rw e

@@ -4,8 +4,6 @@ use mathlib.Core.Path.{_≡_}
 use mathlib.Core.List.{List, [], _∷_}
 use lib.ListN.{length}
 use Rattle.rules.specs.Track.{fragmentsFrom, startAt}
-use Rattle.rules.specs.declared.Previous.{Previous}
-use Rattle.rules.specs.declared.Previous.the-variants.{Unset, End}
 use Rattle.track.specs.declared.cursor.Cursor.{Cursor}
 use Rattle.track.specs.declared.cursor.Cursor.the-variants as cursor
 
@@ -19,9 +17,4 @@ pub record NextAt (s : List ℕ) (at p q v : ℕ) : Type 0 where
 -- the next fragment from a place on, or none
 abbrev pub nextFragment : Cursor → List ℕ → ℕ → Type 0
 nextFragment (cursor.At p q v) s at = NextAt s at p q v
-nextFragment cursor.End s at = fragmentsFrom s at ≡ []
-
--- the last end as a list: none before the first fragment
-abbrev pub endList : Previous → List ℕ
-endList Unset = []
-endList (End e) = e ∷ []
+nextFragment cursor.Done s at = fragmentsFrom s at ≡ []

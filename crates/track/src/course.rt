@@ -3,35 +3,28 @@ ghost use mathlib.Core.Path.{_≡_};
 ghost use Prim.Native.Nat.{_+_, _≤_};
 ghost use lib.ListN.{length};
 ghost use Rattle.rules.specs.Limits.{byteLimit};
-ghost use Rattle.rules.specs.Order.{ordered};
-ghost use Rattle.boxes.specs.Stands.{Stands};
 ghost use Rattle.rules.specs.Boxes.{whole};
+ghost use Rattle.rules.specs.Order.{ordered, awaits, step6};
 ghost use Rattle.rules.specs.Header.{ftypIn};
-ghost use Rattle.track.specs.declared.Judged.the-variants.{Accepted, Refused};
-ghost use Rattle.track.specs.declared.course.Course.the-variants.{Typed};
-ghost use Rattle.track.specs.Course.{opened, joined, boxOf, passing, awaiting, after, ended, Few, Fits, saysPasses};
-use crate::Judged;
-use crate::TrackFacts;
-use boxes::Spot;
+ghost use Rattle.rules.specs.Course.{opened, joined, andBox, courseEnd};
+ghost use Rattle.rules.specs.declared.Judged.the-variants.{Accepted, Refused};
+ghost use Rattle.boxes.specs.Stands.{Stands};
+ghost use Rattle.track.specs.Course.{boxOf, Few, Fits, Stops, saysPasses};
 use boxes::kinds::FTYP;
 use boxes::kinds::MDAT;
 use boxes::kinds::MOOF;
 use boxes::kinds::MOOV;
 use fragment::Fragment;
-use header::Headed;
+use header::HeaderAnswer;
+use rules::Course;
 use rules::Ftyp;
+use rules::Judged;
 use rules::Previous;
-
-// What a track has come to after some of its boxes, by the stages of rule 6: nothing yet; `ftyp`; `moov`, with the header's rules; a `moof` that
-// waits for its `mdat`; a fragment, with its rules; or the place where the order breaks.
-pub enum Course {
-    Start,
-    Typed(Ftyp),
-    Headed(Judged),
-    Halved(Judged, Spot),
-    Paired(Judged),
-    Broken(usize),
-}
+use rules::Reached;
+use rules::Spot;
+use rules::Stage;
+use rules::Stepped;
+use rules::TrackFacts;
 
 // Whether the order speaks of a type.
 fn ordered(kind: u32) -> bool
@@ -46,34 +39,50 @@ fn ordered(kind: u32) -> bool
     }
 }
 
-// A box that isn't awaited: one of the four types breaks the order, any other is passed over.
-fn passing(course: Course, b: Spot, kind: u32) -> Course
-    ensures { λ r. ⌜ r ≡ passing course (boxOf b kind) ⌝ }
+// Rule 6: the awaited type leads on, another of the four is wrong, any other box is passed over.
+fn awaits(w: u32, next: Stage, same: Stage, kind: u32) -> Stepped
+    ensures { λ r. ⌜ r ≡ awaits w next same kind ⌝ }
 {
-    if ordered(kind) {
-        return Course::Broken(b.at);
+    if kind == w {
+        return Stepped::To(next);
     }
-    course
+    if ordered(kind) {
+        return Stepped::Wrong;
+    }
+    Stepped::To(same)
 }
 
-// A box where a `moof` is awaited.
-fn awaiting(course: Course, sofar: Judged, b: Spot, kind: u32) -> Course
-    ensures { λ r. ⌜ r ≡ awaiting course sofar (boxOf b kind) ⌝ }
+// Rule 6: the stage after a box of a type.
+fn step6(stage: Stage, kind: u32) -> Stepped
+    ensures { λ r. ⌜ r ≡ step6 stage kind ⌝ }
 {
-    if kind == MOOF {
-        return Course::Halved(sofar, b);
+    match stage {
+        Stage::Start => {
+            if kind == FTYP {
+                return Stepped::To(Stage::Typed);
+            }
+            Stepped::Wrong
+        }
+        Stage::Typed => awaits(MOOV, Stage::Headed, Stage::Typed, kind),
+        Stage::Headed => awaits(MOOF, Stage::Halved, Stage::Headed, kind),
+        Stage::Halved => {
+            if kind == MDAT {
+                return Stepped::To(Stage::Paired);
+            }
+            Stepped::Wrong
+        }
+        Stage::Paired => awaits(MOOF, Stage::Halved, Stage::Paired, kind),
     }
-    passing(course, b, kind)
 }
 
 // What `ftyp` tells.
-fn typed(s: &[u8], b: Spot) -> Course
+fn typed(s: &[u8], b: Spot) -> Ftyp
     requires { ⌜ Stands (now s) b ⌝ }
-    ensures { λ r. ⌜ r ≡ Typed (ftypIn (whole (now (s .entry)) (b .at))) ⌝ }
+    ensures { λ r. ⌜ r ≡ ftypIn (whole (now (s .entry)) (b .at)) ⌝ }
 {
     let at = b.at;
     let end = at + b.size;
-    Course::Typed(header::ftyp::read_ftyp(&s[at..end], b.head))
+    header::ftyp::read_ftyp(&s[at..end], b.head)
 }
 
 // `moov`, after `ftyp`: the header's rules.
@@ -84,8 +93,8 @@ fn opened(s: &[u8], f: Ftyp, b: Spot) -> Judged
     let at = b.at;
     let end = at + b.size;
     let base = at as u64;
-    match header::check(f, &s[at..end], b.head) {
-        Headed::Good(x) => {
+    match header::check_header(f, &s[at..end], b.head) {
+        HeaderAnswer::Good(x) => {
             let header = x.header;
             Judged::Accepted(TrackFacts {
                 header,
@@ -95,12 +104,12 @@ fn opened(s: &[u8], f: Ftyp, b: Spot) -> Judged
                 end: Previous::Unset,
             })
         }
-        Headed::Ftyp(number) => Judged::Refused {
+        HeaderAnswer::OfFtyp(number) => Judged::Refused {
             number,
             track: 0,
             place: 0,
         },
-        Headed::Moov { number, place } => Judged::Refused {
+        HeaderAnswer::OfMoov { number, place } => Judged::Refused {
             number,
             track: 0,
             place: base + place,
@@ -109,7 +118,7 @@ fn opened(s: &[u8], f: Ftyp, b: Spot) -> Judged
 }
 
 // A `moof` and its `mdat`, after rules that hold: the fragment's rules.
-fn grown(s: &[u8], f: TrackFacts, moof: Spot, mdat: Spot) -> Judged
+fn and_fragment(s: &[u8], f: TrackFacts, moof: Spot, mdat: Spot) -> Judged
     requires { ⌜ Stands (now s) moof × Stands (now s) mdat × (moof .at + moof .size ≡ mdat .at) ⌝ }
     requires { ⌜ (length (now s) ≤ byteLimit) × (f .fragments ≤ mdat .at) ⌝ }
     ensures { λ r. ⌜ r ≡ joined (now (s .entry)) (Accepted f) (moof .at) ⌝ }
@@ -119,7 +128,7 @@ fn grown(s: &[u8], f: TrackFacts, moof: Spot, mdat: Spot) -> Judged
     let header = f.header;
     let prev = f.end;
     let payload = (mdat.size - mdat.head) as u64;
-    match fragment::check(
+    match fragment::check_fragment(
         &s[at..end],
         moof.head,
         mdat.head as u64,
@@ -149,7 +158,7 @@ fn joined(s: &[u8], sofar: Judged, moof: Spot, mdat: Spot) -> Judged
     ensures { λ r. ⌜ r ≡ joined (now (s .entry)) sofar (moof .at) ⌝ }
 {
     match sofar {
-        Judged::Accepted(f) => grown(s, f, moof, mdat),
+        Judged::Accepted(f) => and_fragment(s, f, moof, mdat),
         Judged::Refused {
             number,
             track,
@@ -167,56 +176,72 @@ pub fn passes(course: Course, kind: u32) -> bool
     ensures { λ r. ⌜ saysPasses r course kind ⌝ }
 {
     match course {
-        Course::Start => false,
-        Course::Typed(_) => !ordered(kind),
-        Course::Headed(_) => !ordered(kind),
-        Course::Halved(_, _) => false,
-        Course::Paired(_) => !ordered(kind),
         Course::Broken(_) => true,
+        Course::On(c) => match c {
+            Reached::Start => false,
+            Reached::Typed(_) => !ordered(kind),
+            Reached::Headed(_) => !ordered(kind),
+            Reached::Halved(_, _) => false,
+            Reached::Paired(_) => !ordered(kind),
+        },
     }
 }
 
-// One box more.
-pub fn after(s: &[u8], course: Course, b: Spot, kind: u32) -> Course
-    requires { ⌜ Fits (now s) course (b .at) × Stands (now s) b × (length (now s) ≤ byteLimit) ⌝ }
-    ensures { λ r. ⌜ r ≡ after (now (s .entry)) course (boxOf b kind) ⌝ }
+// One box more, which is not passed over: rule 6 tells whether it may stand there, and then it brings what its stage awaits.
+pub fn and_box(s: &[u8], course: Course, b: Spot, kind: u32) -> Course
+    requires { ⌜ Fits (now s) course (b .at) × Stands (now s) b × (length (now s) ≤ byteLimit) × Stops course kind ⌝ }
+    ensures { λ r. ⌜ r ≡ andBox (now (s .entry)) course (boxOf b kind) ⌝ }
 {
     match course {
-        Course::Start => {
-            if kind == FTYP {
-                return typed(s, b);
-            }
-            Course::Broken(b.at)
-        }
-        Course::Typed(f) => {
-            if kind == MOOV {
-                return Course::Headed(opened(s, f, b));
-            }
-            passing(course, b, kind)
-        }
-        Course::Headed(j) => awaiting(course, j, b, kind),
-        Course::Halved(j, moof) => {
-            if kind == MDAT {
-                return Course::Paired(joined(s, j, moof, b));
-            }
-            Course::Broken(b.at)
-        }
-        Course::Paired(j) => awaiting(course, j, b, kind),
         Course::Broken(_) => course,
+        Course::On(c) => match c {
+            Reached::Start => {
+                let Stepped::To(_) = step6(Stage::Start, kind) else {
+                    return Course::Broken(b.at);
+                };
+                Course::On(Reached::Typed(typed(s, b)))
+            }
+            Reached::Typed(f) => {
+                let Stepped::To(_) = step6(Stage::Typed, kind) else {
+                    return Course::Broken(b.at);
+                };
+                Course::On(Reached::Headed(opened(s, f, b)))
+            }
+            Reached::Headed(j) => {
+                let Stepped::To(_) = step6(Stage::Headed, kind) else {
+                    return Course::Broken(b.at);
+                };
+                Course::On(Reached::Halved(j, b))
+            }
+            Reached::Halved(j, moof) => {
+                let Stepped::To(_) = step6(Stage::Halved, kind) else {
+                    return Course::Broken(b.at);
+                };
+                Course::On(Reached::Paired(joined(s, j, moof, b)))
+            }
+            Reached::Paired(j) => {
+                let Stepped::To(_) = step6(Stage::Paired, kind) else {
+                    return Course::Broken(b.at);
+                };
+                Course::On(Reached::Halved(j, b))
+            }
+        },
     }
 }
 
 // Where a slice of some bytes has no more boxes.
-pub fn ended(length: usize, course: Course) -> Judged
-    ensures { λ r. ⌜ r ≡ ended length course ⌝ }
+pub fn course_end(length: usize, course: Course) -> Judged
+    ensures { λ r. ⌜ r ≡ courseEnd length course ⌝ }
 {
     match course {
-        Course::Start => disordered(length),
-        Course::Typed(_) => disordered(length),
-        Course::Headed(_) => disordered(length),
-        Course::Halved(_, _) => disordered(length),
-        Course::Paired(j) => j,
         Course::Broken(at) => disordered(at),
+        Course::On(c) => match c {
+            Reached::Paired(j) => j,
+            Reached::Start => disordered(length),
+            Reached::Typed(_) => disordered(length),
+            Reached::Headed(_) => disordered(length),
+            Reached::Halved(_, _) => disordered(length),
+        },
     }
 }
 

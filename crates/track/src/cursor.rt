@@ -14,7 +14,7 @@ pub enum Cursor {
         next: usize,
         start: u64,
     },
-    End,
+    Done,
 }
 
 // The next fragment from a place on.
@@ -25,8 +25,8 @@ pub fn next_fragment(s: &[u8], at: usize) -> Cursor
     let mut here = at;
     loop {
         let l = boxes::look(s, here);
-        let Look::Header { head, size, kind } = l else {
-            return Cursor::End;
+        let Look::Good { head, size, kind } = l else {
+            return Cursor::Done;
         };
         let next = here + size;
         if kind == MOOF {

@@ -6,36 +6,23 @@ ghost use lib.ListN.{length, drop};
 ghost use lib.Seq.{sets};
 ghost use Rattle.rules.specs.Limits.{byteLimit};
 ghost use Rattle.rules.specs.Jobs.{Permits};
-ghost use Rattle.rules.specs.Track.{boundaries, trackOutcome};
-ghost use Rattle.track.specs.Course.{endOfTrack, judgement, Known, roomOf};
-ghost use Rattle.track.specs.Cursor.{endList};
-use boxes::Spot;
-use course::Course;
+ghost use Rattle.rules.specs.Track.{boundaries, endList, trackOutcome};
+ghost use Rattle.rules.specs.Course.{judgement};
+ghost use Rattle.track.specs.Course.{endOfTrack, Known, roomOf};
 use cursor::Cursor;
 use cursor::next_fragment;
 use framing::BYTE_LIMIT;
 use framing::Step;
-use rules::Header;
+use rules::Course;
+use rules::Judged;
 use rules::Previous;
+use rules::Reached;
+use rules::Spot;
+use rules::TrackFacts;
 use rules::Verdict;
 
 pub mod course;
 pub mod cursor;
-
-// What is known of a track: what its header tells, where `mdhd` and `hdlr` stand in it, the number of its fragments and their last end.
-pub struct TrackFacts {
-    pub header: Header,
-    pub mdhd: u64,
-    pub hdlr: u64,
-    pub fragments: u64,
-    pub end: Previous,
-}
-
-// What the rules come to: all hold, with what is known of the track, or the first that breaks.
-pub enum Judged {
-    Accepted(TrackFacts),
-    Refused { number: u64, track: u64, place: u64 },
-}
 
 // Every rule of a track but room, in one walk along the top level.
 pub fn judge(s: &[u8]) -> Judged
@@ -50,7 +37,7 @@ pub fn judge(s: &[u8]) -> Judged
     }
     let mut at: usize = 0;
     let mut count: usize = 0;
-    let mut course = Course::Start;
+    let mut course = Course::On(Reached::Start);
     loop {
         match framing::top_box(s, at, count) {
             Step::Past {
@@ -60,13 +47,13 @@ pub fn judge(s: &[u8]) -> Judged
                 boxes,
             } => {
                 if !course::passes(course, kind) {
-                    course = course::after(s, course, Spot { at, head, size }, kind);
+                    course = course::and_box(s, course, Spot { at, head, size }, kind);
                 }
                 at += size;
                 count = boxes;
             }
-            Step::End => {
-                return course::ended(s.len(), course);
+            Step::Nothing => {
+                return course::course_end(s.len(), course);
             }
             Step::Refused { number, place } => {
                 return Judged::Refused {
@@ -79,21 +66,8 @@ pub fn judge(s: &[u8]) -> Judged
     }
 }
 
-// A job's refusal: no count, no timescale.
-pub fn refused(number: u64, track: u64, place: u64) -> Verdict
-    ensures { λ r. ⌜ r ≡ record { number = number; track = track; place = place; count = 0; timescale = 0 } ⌝ }
-{
-    Verdict {
-        number,
-        track,
-        place,
-        count: 0,
-        timescale: 0,
-    }
-}
-
 // Writes the last end, if there is one, at a place of the table.
-fn put_end(end: Previous, t: &mut [u64], k: usize)
+fn put_last(end: Previous, t: &mut [u64], k: usize)
     requires { ⌜ k + length (endList end) ≤ length (now t) ⌝ }
     ensures { λ _. ⌜ now (t .exit) ≡ sets (now (t .entry)) k (endList end) ⌝ }
 {
@@ -115,7 +89,7 @@ fn write_boundaries(s: &[u8], end: Previous, t: &mut [u64])
     loop {
         let c = next_fragment(s, at);
         let Cursor::At { next, start, .. } = c else {
-            put_end(end, t, k);
+            put_last(end, t, k);
             return;
         };
         t[k] = start;
@@ -130,7 +104,7 @@ pub fn accept(s: &[u8], f: TrackFacts, t: &mut [u64]) -> Verdict
     ensures { λ r. ⌜ Permits roomOf (now (s .entry)) (now (t .entry)) r (now (t .exit)) ⌝ }
 {
     if (t.len() as u64) <= f.fragments {
-        return refused(23, 0, 0);
+        return rules::refusal(23, 0, 0);
     }
     let end = f.end;
     write_boundaries(s, end, t);
@@ -144,7 +118,7 @@ pub fn accept(s: &[u8], f: TrackFacts, t: &mut [u64]) -> Verdict
 }
 
 // The track job: every rule, then room, and the boundaries.
-pub fn track(s: &[u8], t: &mut [u64]) -> Verdict
+pub fn track_job(s: &[u8], t: &mut [u64]) -> Verdict
     ensures { λ r. ⌜ Permits trackOutcome (now (s .entry)) (now (t .entry)) r (now (t .exit)) ⌝ }
 {
     match judge(s) {
@@ -153,6 +127,6 @@ pub fn track(s: &[u8], t: &mut [u64]) -> Verdict
             number,
             track,
             place,
-        } => refused(number, track, place),
+        } => rules::refusal(number, track, place),
     }
 }

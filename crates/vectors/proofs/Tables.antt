@@ -1,20 +1,20 @@
 -- Laws of filling a table and of the sum over one.
-use Prim.Native.Nat.{ℕ, _+_, _*_, _%_, _≤_, _<_}
+use Prim.Native.Nat.{ℕ, _+_, _*_, _%_, _<_}
 use mathlib.Core.Path.{_≡_, sym, ap, _∙_}
 use mathlib.Core.List.{List}
 use native.Mathlib.Nat.{add-mod-mod}
 use native.Mathlib.Numerals.{add-one}
 use native.Mathlib.Omega.{arith}
-use lib.ListN.{length, take, getD, set}
-use lib.Seq.{length-take-le, getD-set-same, getD-set-other}
+use lib.ListN.{length, getD, set}
+use lib.Seq.{getD-set-same, getD-set-other}
 use borrow.Author.Count.{below-more}
-use Rattle.vectors.specs.Tables.{Filled, sumOf}
+use Rattle.vectors.specs.Tables.{FilledTo, sumOf}
 
-pub none : (t : List ℕ) → Filled t 0
+pub none : (t : List ℕ) → FilledTo t 0
 none t k h = absurd (omega arith)
 
 -- one number more is filled
-pub one-more : (t : List ℕ) (i : ℕ) → i < length t → Filled t i → Filled (set t i (i * 7 + 1)) (i + 1)
+pub one-more : (t : List ℕ) (i : ℕ) → i < length t → FilledTo t i → FilledTo (set t i (i * 7 + 1)) (i + 1)
 one-more t i h f =
     below-more (λ (k : ℕ). getD (set t i (i * 7 + 1)) k 0 ≡ k * 7 + 1) i
     (λ k l. getD-set-other t i k (i * 7 + 1) 0 (λ e. absurd (omega arith)) ∙ f k l)
@@ -31,7 +31,3 @@ summed t h i e =
     add-mod-mod (h * 31) (getD t i 0) 1000000007
     ∙ ap (λ (k : ℕ). (k * 31 + getD t i 0) % 1000000007) e
     ∙ ap (λ (k : ℕ). sumOf k t) (sym (add-one i))
-
--- the front of a list has its length
-pub front : {A : Type 0} (n : ℕ) (xs : List A) → n ≤ length xs → n ≡ length (take n xs)
-front n xs h = sym (length-take-le n xs h)

@@ -5,8 +5,8 @@ use mathlib.Core.List.{List}
 use lib.ListN.{getD}
 
 -- the table has i * 7 + 1 at each i below n
-abbrev pub Filled : List ℕ → ℕ → Type 0
-Filled t n = (i : ℕ) → i < n → getD t i 0 ≡ i * 7 + 1
+abbrev pub FilledTo : List ℕ → ℕ → Type 0
+FilledTo t n = (i : ℕ) → i < n → getD t i 0 ≡ i * 7 + 1
 
 -- the sum over the first n numbers
 unfoldable pub sumOf : ℕ → List ℕ → ℕ

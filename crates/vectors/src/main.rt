@@ -8,11 +8,11 @@ use printed::TEXT_ROOM;
 use rules::Verdict;
 ghost use mathlib.Core.Path.{_≡_};
 ghost use lib.ListN.{length};
-ghost use Rattle.vectors.specs.Tables.{Filled, sumOf};
+ghost use Rattle.vectors.specs.Tables.{FilledTo, sumOf};
 
 // Fills a table with i * 7 + 1 at each i.
 fn fill(t: &mut [u64])
-    ensures { λ _. ⌜ Filled (now (t .exit)) (length (now (t .entry))) ⌝ }
+    ensures { λ _. ⌜ FilledTo (now (t .exit)) (length (now (t .entry))) ⌝ }
 {
     let mut i = 0;
     while i < t.len() {
@@ -35,14 +35,14 @@ fn sum_of(t: &[u64]) -> u64
 }
 
 // The verdict of a job.
-fn run(job: u8, s: &[u8], t: &mut [u64]) -> Verdict {
+fn run_job(job: u8, s: &[u8], t: &mut [u64]) -> Verdict {
     if job == 0 {
-        return framing::index(s, t);
+        return framing::index_job(s, t);
     }
     if job == 1 {
-        return track::track(s, t);
+        return track::track_job(s, t);
     }
-    set::check(s, t)
+    set::set_job(s, t)
 }
 
 // Prints what the program `intake` prints.
@@ -59,7 +59,7 @@ fn print_case(job: u8, s: &[u8], t: &mut [u64]) {
         return;
     }
     fill(t);
-    let v = run(job, s, t);
+    let v = run_job(job, s, t);
     let mut line = [0u8; 160];
     let n = lines::case_line(job as u64, v, sum_of(t), &mut line);
     io::write_all(STDOUT_FILENO, &line[..n]);

@@ -1,9 +1,9 @@
-use Rattle.counts.proofs.Plain.{few, many}
+use Rattle.counts.proofs.Plain.{at-most-one, many}
 use Rattle.counts.proofs.at_most_one_of.Statement.{statement}
 use Rattle.counts.proofs.at_most_one_of.Tie as tie
 
 returns : tie.Need-returns
-returns c = few _ _ _ (c .if1 .taken)
+returns c = at-most-one _ _ _ (c .if1 .taken)
 
 returns-2 : tie.Need-returns-2
 returns-2 c = many _ _ _ (c .if1 .left)

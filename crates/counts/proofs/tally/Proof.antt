@@ -4,13 +4,13 @@ use Prim.Native.Nat.{_-_}
 use native.Mathlib.Omega.{arith}
 use lib.ListN.{length}
 use Rattle.boxes.proofs.Walks.{over, found}
-use Rattle.counts.proofs.Walked.{Going, going-none, going-all, going-hit, going-miss}
+use Rattle.counts.proofs.Walked.{SeenTo, going-none, going-all, going-hit, going-miss}
 use borrow.Author.Needs.{needs}
 use Rattle.counts.proofs.tally.Statement.{statement}
 use Rattle.counts.proofs.tally.Tie as tie
 
 abbrev Inv-loop : tie.InvT-loop
-Inv-loop s from a b c at₀ u₀ v₀ x₀ at u v x = Going s (u₀ .first) from at a u × Going s (v₀ .first) from at b v × Going s (x₀ .first) from at c x
+Inv-loop s from a b c at₀ u₀ v₀ x₀ at u v x = SeenTo s (u₀ .first) from at a u × SeenTo s (v₀ .first) from at b v × SeenTo s (x₀ .first) from at c x
 
 abbrev μ-loop : tie.MeasureT-loop
 μ-loop s from a b c at₀ u₀ v₀ x₀ at u v x = length s - at

@@ -14,7 +14,7 @@ read-requires : tie.Need-read-requires
 unfolding tfhdIn tfdtIn firstRun
 read-requires c κs =
     let e = c .before .before .before in
-    let n = e .before .before .counts in
+    let n = e .before .before .count-boxes in
     let s = e .before .before .before .before in
     let a = s .args in
     let m = now (a .m) in
@@ -33,7 +33,7 @@ read-requires c κs =
 
 returns : tie.Need-returns
 returns c =
-    let n = c .before .before .before .counts in
+    let n = c .before .before .before .count-boxes in
     let s = c .before .before .before .before .before in
     let a = s .args in
     let m = now (a .m) in

@@ -12,7 +12,7 @@ use Rattle.fragment.proofs.read.Tie as tie
 returns : tie.Need-returns
 unfolding rule15
 returns c =
-    let s = c .before .before .before .before .before in
+    let s = c .before .before .before .before in
     let a = s .args in
     let b = s .pre .2 .mfhd in
     let wrong = rw (c .enum-told2 .given .1) at (c .before .before .read-mfhd .ensures) in
@@ -21,8 +21,8 @@ returns c =
 returns-2 : tie.Need-returns-2
 unfolding rule15
 returns-2 c =
-    let e = c .before .before .before .before in
-    let s = e .before .before .before .before .before in
+    let e = c .before .before .before in
+    let s = e .before .before .before .before in
     let a = s .args in
     let b = s .pre .2 .tfhd in
     let first = rw (e .enum-told .given .1) at (e .before .before .read-mfhd .ensures) in
@@ -32,9 +32,9 @@ returns-2 c =
 returns-3 : tie.Need-returns-3
 unfolding rule15
 returns-3 c =
-    let k = c .before .before .before .before in
-    let e = k .before .before .before .before .before in
-    let s = e .before .before .before .before .before in
+    let k = c .before .before .before in
+    let e = k .before .before .before .before in
+    let s = e .before .before .before .before in
     let a = s .args in
     let b = s .pre .2 .tfdt in
     let first = rw (e .enum-told .given .1) at (e .before .before .read-mfhd .ensures) in
@@ -46,9 +46,9 @@ returns-3 c =
 settle-requires : tie.Need-settle-requires
 unfolding rule15
 settle-requires c κs =
-    let k = c .before .before .before .before .before in
-    let e = k .before .before .before .before .before in
-    let p = e .before .before .before .before .before .pre in
+    let k = c .before .before .before .before in
+    let e = k .before .before .before .before in
+    let p = e .before .before .before .before .pre in
     let first = rw (e .enum-told .given .1) at (e .before .before .read-mfhd .ensures) in
     let second = rw (k .before .tfhd .given .1) at (k .before .before .before .read-tfhd .ensures) in
     let third = rw (c .before .tfdt .given .1) at (c .before .before .before .read-tfdt .ensures) in (

@@ -13,22 +13,22 @@ use Rattle.fragment.proofs.start_in.Statement.{statement}
 use Rattle.fragment.proofs.start_in.Tie as tie
 
 -- the `tfdt` is the fragment's
-place : (c : tie.After-child2) → c .child2 .result .at ≡ tfdtIn (now (c .before .before .before .args .m))
+place : (c : tie.After-first-child2) → c .first-child2 .result .at ≡ tfdtIn (now (c .before .before .before .args .m))
 unfolding trafIn tfdtIn
-place c = c .child2 .ensures .place ∙ ap (λ (t : ℕ). child (now (c .before .before .before .args .m)) t tfdt) (c .before .child .ensures .place)
+place c = c .first-child2 .ensures .place ∙ ap (λ (t : ℕ). child (now (c .before .before .before .args .m)) t tfdt) (c .before .first-child .ensures .place)
 
 returns : tie.Need-returns
 returns c =
     let b = c .before .before .before .before in
-    let st = b .child2 .ensures .stands in
-    start-one _ (b .child2 .result) (place b) _ (version-is _ _ st ∙ sym (c .before .before .byte .ensures) ∙ c .before .if1 .taken) (rw (st .head) (c .be8 .ensures))
+    let st = b .first-child2 .ensures .stands in
+    start-one _ (b .first-child2 .result) (place b) _ (version-is _ _ st ∙ sym (c .before .before .byte .ensures) ∙ c .before .if1 .taken) (rw (st .head) (c .be8 .ensures))
 
 returns-2 : tie.Need-returns-2
 unfolding field
 returns-2 c =
     let b = c .before .before .before .before in
-    let st = b .child2 .ensures .stands in
-    start-other _ (b .child2 .result) (place b) _ (λ o. c .before .if1 .left (c .before .before .byte .ensures ∙ sym (version-is _ _ st) ∙ o)) (rw (st .head) (c .be4 .ensures))
+    let st = b .first-child2 .ensures .stands in
+    start-other _ (b .first-child2 .result) (place b) _ (λ o. c .before .if1 .left (c .before .before .byte .ensures ∙ sym (version-is _ _ st) ∙ o)) (rw (st .head) (c .be4 .ensures))
 
 pub start-in-spec : {M : Type 1} → statement M
 start-in-spec =

@@ -19,7 +19,7 @@ use Rattle.framing.proofs.read_run.Kinds as read-run-kinds
 use Rattle.framing.proofs.+read_box+read_run.Lts-read_run as read-run-lts
 use Rattle.boxes.proofs.inside.Reads as inside-reads
 use Rattle.boxes.proofs.look.Reads as look-reads
-use Rattle.framing.proofs.broken.Reads as broken-reads
+use Rattle.framing.proofs.broken_step.Reads as broken-step-reads
 use Rattle.framing.proofs.passed.Reads as passed-reads
 use Rattle.framing.proofs.+read_box+read_run.{statement}
 use Rattle.framing.proofs.+read_box+read_run.Tie.{close}
@@ -51,7 +51,7 @@ abbrev read-run-μ-loop : read-run-lts.MeasureT-loop
 read-run-μ-loop s path base n at₀ count₀ at count = length s - at
 
 pub +read-box+read-run-spec : {M : Type 1} → statement M
-+read-box+read-run-spec = close μ-read-box μ-read-run (λ t. read-box-lts.spec (look-reads.Asked, look-reads.Learnt, broken-reads.Asked, broken-reads.Learnt, inside-reads.Asked, inside-reads.Learnt, read-run-below t, read-run.Post, passed-reads.Asked, passed-reads.Learnt)
++read-box+read-run-spec = close μ-read-box μ-read-run (λ t. read-box-lts.spec (look-reads.Asked, look-reads.Learnt, broken-step-reads.Asked, broken-step-reads.Learnt, inside-reads.Asked, inside-reads.Learnt, read-run-below t, read-run.Post, passed-reads.Asked, passed-reads.Learnt)
     (read-box-at t)
     read-box.Post
     (λ c. at-end _ _ _ _ _ (c .if1 .taken))
@@ -60,7 +60,7 @@ pub +read-box+read-run-spec : {M : Type 1} → statement M
     (λ c κs. tt)
     (λ c. search needs)
     (λ c κs. tt)
-    (λ c. reads-broken _ _ _ _ _ _ _ (sym (c .before .before .look .ensures .0)) (c .before .match .keys2) (c .before .before .before .if2 .left) (c .broken .ensures))
+    (λ c. reads-broken _ _ _ _ _ _ _ (sym (c .before .before .look .ensures .0)) (c .before .match .keys2) (c .before .before .before .if2 .left) (c .broken-step .ensures))
     (λ c. omega (arith, told (c .before .before .before .look .ensures .0) (c .before .l .given .1)))
     (λ c κs. tt)
     (λ c. search needs)

@@ -19,8 +19,8 @@ returns-2 c = at-limit _ _ _ _ _ (c .before .if1 .left) (c .if2 .taken) ∙ ap (
 returns-3 : tie.Need-returns-3
 returns-3 c =
     let a = c .before .before .before .before .before .before .args in
-    reads-broken Top (now (a .s)) (a .at) 0 (a .n) (c .before .before .look .result) (c .broken .result) (sym (c .before .before .look .ensures .0)) (c .before .match .keys2) (c .before .before .before .if2 .left)
-    (rw (zero-add (a .at)) (c .broken .ensures))
+    reads-broken Top (now (a .s)) (a .at) 0 (a .n) (c .before .before .look .result) (c .broken-step .result) (sym (c .before .before .look .ensures .0)) (c .before .match .keys2) (c .before .before .before .if2 .left)
+    (rw (zero-add (a .at)) (c .broken-step .ensures))
 
 add-next : tie.Need-add-next
 add-next c = omega (arith, told (c .before .before .before .look .ensures .0) (c .before .l .given .1))

@@ -1,6 +1,6 @@
 -- `intake::main` is safe and ends. Assumes nothing.
 use borrow.Author.Needs.{needs}
-use Rattle.intake.proofs.Held.{front}
+use Rattle.intake.proofs.Held.{held-front}
 use Rattle.intake.proofs.main.Statement.{statement}
 use Rattle.intake.proofs.main.Tie as tie
 
@@ -26,12 +26,12 @@ returns : tie.Need-returns
 returns c = search needs
 
 array-share-prefix-input : tie.Need-array-share-prefix-input
-array-share-prefix-input c = front _ (c .before .n .given .1) (c .before .before .before .before .read-all .ensures) .0
+array-share-prefix-input c = held-front _ (c .before .n .given .1) (c .before .before .before .before .read-all .ensures) .0
 
 slice-aggregate-print : tie.Need-slice-aggregate-print
 slice-aggregate-print c =
     let b = c .before .before in
-    front _ (b .n .given .1) (b .before .before .before .read-all .ensures) .1
+    held-front _ (b .n .given .1) (b .before .before .before .read-all .ensures) .1
 
 print-requires : tie.Need-print-requires
 print-requires c κs = search needs

@@ -4,7 +4,7 @@ use mathlib.Core.Path.{ap}
 use native.Mathlib.Omega.{arith}
 use lib.ListN.{length}
 use borrow.Author.Needs.{needs}
-use Rattle.lines.proofs.Digits.{few, more, one-more}
+use Rattle.lines.proofs.Digits.{below-ten, from-ten, one-more}
 use Rattle.lines.proofs.Puts.{then}
 use borrow.Fn.Kinds.{In}
 use borrow.Fn.PlainCycle.{Measures, is, falls, and}
@@ -34,7 +34,7 @@ put-number-put-digit-requires : (t : ℕ) → put-number-lts.Need-put-digit-requ
 ) (put-number-at t) put-number.Post
 put-number-put-digit-requires t c κs =
     let h = c .before .if1 .taken in
-    (h, omega (arith, ap length (few (c .before .before .before .args .n) h)))
+    (h, omega (arith, ap length (below-ten (c .before .before .before .args .n) h)))
 
 put-number-same-length : (t : ℕ) → put-number-lts.Need-same-length (
   put-digit-reads.Asked,
@@ -51,7 +51,7 @@ put-number-returns : (t : ℕ) → put-number-lts.Need-returns (
   put-number.Post,
 ) (put-number-at t) put-number.Post
 put-number-returns t c =
-    rw (few (c .before .before .before .before .before .before .args .n) (c .before .before .before .before .if1 .taken))
+    rw (below-ten (c .before .before .before .before .before .before .args .n) (c .before .before .before .before .if1 .taken))
     (c .before .before .put-digit .ensures)
 
 put-number-put-number-requires : (t : ℕ) → put-number-lts.Need-put-number-requires (
@@ -91,7 +91,7 @@ put-number-returns-2 : (t : ℕ) → put-number-lts.Need-returns-2 (
 ) (put-number-at t) put-number.Post
 put-number-returns-2 t c =
     let b = c .before .before .before .before .before .before .before .before in
-    rw (more (b .before .before .args .n) (b .if1 .left))
+    rw (from-ten (b .before .before .args .n) (b .if1 .left))
     (then (c .before .before .before .before .before .before .put-number .ensures) (c .before .before .put-digit2 .ensures))
 
 pub +put-number-spec : {M : Type 1} → statement M

@@ -24,8 +24,8 @@ slice-aggregate-put-field-3 c = search needs
 put-field-requires-3 : tie.Need-put-field-requires-3
 put-field-requires-3 c κs = search needs
 
-put-end-requires : tie.Need-put-end-requires
-put-end-requires c κs = search needs
+put-line-end-requires : tie.Need-put-line-end-requires
+put-line-end-requires c κs = search needs
 
 same-length : tie.Need-same-length
 same-length c = search needs
@@ -37,8 +37,8 @@ returns c =
     let third = last .before .before .before .before in
     let second = third .before .before .before .before .before in
     let first = second .before .before .before .before .before in (
-      then (then (then (first .put-field .ensures .0) (second .put-field2 .ensures .0)) (third .put-field3 .ensures .0)) (last .put-end .ensures),
-      omega (arith, last .put-end .ensures .next, third .put-field3 .ensures .1, second .put-field2 .ensures .1, first .put-field .ensures .1),
+      then (then (then (first .put-field .ensures .0) (second .put-field2 .ensures .0)) (third .put-field3 .ensures .0)) (last .put-line-end .ensures),
+      omega (arith, last .put-line-end .ensures .next, third .put-field3 .ensures .1, second .put-field2 .ensures .1, first .put-field .ensures .1),
     )
 
 pub accepted-line-spec : {M : Type 1} → statement M
@@ -51,6 +51,6 @@ accepted-line-spec =
     put-field-requires-2
     slice-aggregate-put-field-3
     put-field-requires-3
-    put-end-requires
+    put-line-end-requires
     same-length
     returns)

@@ -1,7 +1,7 @@
 -- `lines::case_line` meets its contract: what is put behind one another is the line. Assumes nothing.
 use native.Mathlib.Omega.{arith}
 use borrow.Author.Needs.{needs}
-use Rattle.lines.proofs.Puts.{then, whole}
+use Rattle.lines.proofs.Puts.{then, whole-line}
 use Rattle.lines.specs.Lines.{caseLine}
 use Rattle.lines.proofs.case_line.Statement.{statement}
 use Rattle.lines.proofs.case_line.Tie as tie
@@ -21,8 +21,8 @@ slice-aggregate-put-field-2 c = search needs
 put-field-requires-2 : tie.Need-put-field-requires-2
 put-field-requires-2 c κs = search needs
 
-put-end-requires : tie.Need-put-end-requires
-put-end-requires c κs = search needs
+put-line-end-requires : tie.Need-put-line-end-requires
+put-line-end-requires c κs = search needs
 
 same-length : tie.Need-same-length
 same-length c = search needs
@@ -34,7 +34,7 @@ returns c =
     let third = last .before .before .before .before in
     let second = third .before .before .before .before .before in
     let first = second .before .before .before .before in
-    whole (then (then (then (first .put-field .ensures .0) (second .put-verdict .ensures .0)) (third .put-field2 .ensures .0)) (last .put-end .ensures)) (omega (arith, last .put-end .ensures .next, third .put-field2 .ensures .1, second .put-verdict .ensures .1, first .put-field .ensures .1))
+    whole-line (then (then (then (first .put-field .ensures .0) (second .put-verdict .ensures .0)) (third .put-field2 .ensures .0)) (last .put-line-end .ensures)) (omega (arith, last .put-line-end .ensures .next, third .put-field2 .ensures .1, second .put-verdict .ensures .1, first .put-field .ensures .1))
 
 pub case-line-spec : {M : Type 1} → statement M
 case-line-spec =
@@ -45,6 +45,6 @@ case-line-spec =
     put-verdict-requires
     slice-aggregate-put-field-2
     put-field-requires-2
-    put-end-requires
+    put-line-end-requires
     same-length
     returns)

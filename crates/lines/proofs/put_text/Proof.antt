@@ -5,7 +5,7 @@ use native.Mathlib.Omega.{arith}
 use lib.ListN.{length, take, length-set}
 use lib.Seq.{sets}
 use denote.Ref.{now}
-use Rattle.lines.proofs.Puts.{grown, put}
+use Rattle.lines.proofs.Puts.{byte-more, whole-text}
 use Rattle.lines.proofs.put_text.Statement.{statement}
 use Rattle.lines.proofs.put_text.Tie as tie
 
@@ -39,7 +39,7 @@ loop-again c =
     let v = c .before .before .loop in (
       omega arith,
       simp length-set (v .inv .1),
-      grown (now (a .out)) (a .at) (now (a .text)) (v .i) (v .out) (c .before .loop-test .taken) (v .inv .2),
+      byte-more (now (a .out)) (a .at) (now (a .text)) (v .i) (v .out) (c .before .loop-test .taken) (v .inv .2),
     )
 
 add-result : tie.Need-add-result Inv-loop μ-loop
@@ -52,7 +52,7 @@ returns : tie.Need-returns Inv-loop μ-loop
 returns c =
     let a = c .before .before .args in
     let v = c .before .loop in
-    put (now (a .out)) (a .at) (now (a .text)) (v .i) (v .out) (v .inv .0) (c .loop-test .left) (v .inv .2)
+    whole-text (now (a .out)) (a .at) (now (a .text)) (v .i) (v .out) (v .inv .0) (c .loop-test .left) (v .inv .2)
 
 pub put-text-spec : {M : Type 1} → statement M
 put-text-spec =

@@ -2,7 +2,7 @@
 use native.Mathlib.Omega.{arith}
 use borrow.Author.Needs.{needs}
 use borrow.Author.Tests.{eq-eqb, ne-eqb}
-use Rattle.lines.proofs.Puts.{then, whole}
+use Rattle.lines.proofs.Puts.{then, whole-line}
 use Rattle.lines.specs.Lines.{setLines}
 use Rattle.lines.proofs.set_lines.Statement.{statement}
 use Rattle.lines.proofs.set_lines.Tie as tie
@@ -23,7 +23,7 @@ returns c =
     let f = c .before .before .before .before .before .before .accepted-line in
     let w = c .before .before .before .before .before .before .before .before in
     rw (eq-eqb (w .before .before .before .before .args .v .number) 0 (w .if1 .taken))
-    (whole (then (f .ensures .0) (l .ensures .0)) (omega (arith, f .ensures .1, l .ensures .1)))
+    (whole-line (then (f .ensures .0) (l .ensures .0)) (omega (arith, f .ensures .1, l .ensures .1)))
 
 refused-line-requires : tie.Need-refused-line-requires
 refused-line-requires c κs = search needs
@@ -37,7 +37,7 @@ returns-2 c =
     let f = c .before .before .refused-line in
     let w = c .before .before .before .before in
     rw (ne-eqb (w .before .before .before .before .args .v .number) 0 (w .if1 .left))
-    (whole (f .ensures .0) (omega (arith, f .ensures .1)))
+    (whole-line (f .ensures .0) (omega (arith, f .ensures .1)))
 
 pub set-lines-spec : {M : Type 1} → statement M
 set-lines-spec =

@@ -12,8 +12,8 @@ slice-aggregate-put-field c = search needs
 put-field-requires : tie.Need-put-field-requires
 put-field-requires c κs = search needs
 
-put-end-requires : tie.Need-put-end-requires
-put-end-requires c κs = search needs
+put-line-end-requires : tie.Need-put-line-end-requires
+put-line-end-requires c κs = search needs
 
 same-length : tie.Need-same-length
 same-length c = search needs
@@ -23,9 +23,9 @@ unfolding tickLine
 returns c =
     let last = c .before .before in
     let first = last .before .before .before .before in
-    (then (first .put-field .ensures .0) (last .put-end .ensures), omega (arith, last .put-end .ensures .next, first .put-field .ensures .1))
+    (then (first .put-field .ensures .0) (last .put-line-end .ensures), omega (arith, last .put-line-end .ensures .next, first .put-field .ensures .1))
 
 pub tick-line-spec : {M : Type 1} → statement M
 tick-line-spec =
     tie.close
-    (tie.spec slice-aggregate-put-field put-field-requires put-end-requires same-length returns)
+    (tie.spec slice-aggregate-put-field put-field-requires put-line-end-requires same-length returns)

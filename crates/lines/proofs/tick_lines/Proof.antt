@@ -5,13 +5,13 @@ use native.Mathlib.Omega.{arith}
 use borrow.Author.Needs.{needs}
 use lib.ListN.{length}
 use denote.Ref.{now}
-use Rattle.lines.proofs.Ticks.{Ticks, none, next, up-to, every}
+use Rattle.lines.proofs.Ticks.{TicksPut, none, next, up-to, every-tick}
 use Rattle.lines.proofs.tick_lines.Statement.{statement}
 use Rattle.lines.proofs.tick_lines.Tie as tie
 
 abbrev Inv-loop : tie.InvT-loop
 Inv-loop t last at out₀ k₀ next₀ out k next =
-    (k ≤ length t) × (k ≤ last + 1) × (length out ≡ length out₀) × (next ≤ at + 21 * k) × Ticks t k out₀ at next out
+    (k ≤ length t) × (k ≤ last + 1) × (length out ≡ length out₀) × (next ≤ at + 21 * k) × TicksPut t k out₀ at next out
 
 abbrev μ-loop : tie.MeasureT-loop
 μ-loop t last at out₀ k₀ next₀ out k next = length t - k
@@ -65,7 +65,7 @@ returns-2 : tie.Need-returns-2 Inv-loop μ-loop
 returns-2 c =
     let v = c .before .loop in
     let a = c .before .before .before .before .args in
-    (every (now (a .t)) (v .k) (a .last + 1) (v .inv .1) (c .loop-test .left) (v .inv .4), omega arith)
+    (every-tick (now (a .t)) (v .k) (a .last + 1) (v .inv .1) (c .loop-test .left) (v .inv .4), omega arith)
 
 pub tick-lines-spec : {M : Type 1} → statement M
 tick-lines-spec =

@@ -14,10 +14,10 @@ returns c =
     omega (
       arith,
       c .four .ensures,
-      c .before .before .before .before .after .ensures,
-      c .before .before .before .after2 .ensures ∙ on (s .args .s .now) (s .args .at) (s .args .n) 1,
-      c .before .before .after3 .ensures ∙ on (s .args .s .now) (s .args .at) (s .args .n) 2,
-      c .before .after4 .ensures ∙ on (s .args .s .now) (s .args .at) (s .args .n) 3,
+      c .before .before .before .before .byte-after .ensures,
+      c .before .before .before .byte-after2 .ensures ∙ on (s .args .s .now) (s .args .at) (s .args .n) 1,
+      c .before .before .byte-after3 .ensures ∙ on (s .args .s .now) (s .args .at) (s .args .n) 2,
+      c .before .byte-after4 .ensures ∙ on (s .args .s .now) (s .args .at) (s .args .n) 3,
     )
 
 pub slow4-spec : {M : Type 1} → statement M

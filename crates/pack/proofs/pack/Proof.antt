@@ -1,5 +1,5 @@
 -- `pack::pack` meets its contract. Assumes nothing.
-use Rattle.pack.proofs.Sizes.{fits, packed}
+use Rattle.pack.proofs.Sizes.{all-fit, packed}
 use borrow.Author.Needs.{needs}
 use Rattle.pack.proofs.pack.Statement.{statement}
 use Rattle.pack.proofs.pack.Tie as tie
@@ -7,7 +7,7 @@ use Rattle.pack.proofs.pack.Tie as tie
 write-records-requires : tie.Need-write-records-requires
 write-records-requires c κs =
     let i = c .before .before .before in
-    (search needs, search needs, fits _ _ (i .if1 .taken) (i .before .before .before .before .before .before .open-all .ensures))
+    (search needs, search needs, all-fit _ _ (i .if1 .taken) (i .before .before .before .before .before .before .open-all .ensures))
 
 returns : tie.Need-returns
 returns c =
@@ -15,7 +15,7 @@ returns c =
     let i = w .before .before .before .before in
     let o = i .before .before .before .before .before .before .open-all in
     let a = i .before .before .before .before .before .before .before .before .before .before .before .before .args in
-    packed (a .files) (o .last .1 .1 .0) (w .write-records .result) (fits _ _ (i .if1 .taken) (o .ensures)) (w .write-records .ensures)
+    packed (a .files) (o .last .1 .1 .0) (w .write-records .result) (all-fit _ _ (i .if1 .taken) (o .ensures)) (w .write-records .ensures)
 
 pub pack-spec : {M : Type 1} → statement M
 pack-spec =

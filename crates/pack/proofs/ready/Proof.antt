@@ -1,6 +1,6 @@
 -- `pack::ready` meets its contract. Assumes nothing.
 use native.Mathlib.Omega.{arith}
-use Rattle.pack.proofs.Sizes.{counted}
+use Rattle.pack.proofs.Sizes.{within-limit}
 use borrow.Author.Needs.{needs}
 use Rattle.pack.proofs.ready.Statement.{statement}
 use Rattle.pack.proofs.ready.Tie as tie
@@ -27,7 +27,7 @@ cast-t14 : tie.Need-cast-t14
 cast-t14 c =
     let s = c .before .before .before in
     let k = s .before .before .before .before in
-    omega (arith, counted (k .before .before .before .before .args .from) (s .size .given .1) (k .count-bytes .ensures))
+    omega (arith, within-limit (k .before .before .before .before .args .from) (s .size .given .1) (k .count-bytes .ensures))
 
 enum-told : tie.Need-enum-told
 enum-told c = search needs
@@ -54,7 +54,7 @@ returns-2 : tie.Need-returns-2
 returns-2 c =
     let s = c .before .before .before in
     let k = s .before .before .before .before in
-    counted (k .before .before .before .before .args .from) (s .size .given .1) (k .count-bytes .ensures)
+    within-limit (k .before .before .before .before .args .from) (s .size .given .1) (k .count-bytes .ensures)
 
 same-length-3 : tie.Need-same-length-3
 same-length-3 c = search needs

@@ -6,7 +6,7 @@ use lib.ListN.{take, getD}
 use denote.Ref.{now}
 use Rattle.bundle.specs.Front.{bundleLength}
 use Rattle.bundle.proofs.Lengths.{next-length}
-use Rattle.pack.specs.Sizes.{Reaches}
+use Rattle.pack.specs.Sizes.{WritesTo}
 use Rattle.pack.proofs.Sizes.{reached}
 use borrow.Author.Needs.{needs}
 use Rattle.pack.proofs.write_record.Statement.{statement}
@@ -27,7 +27,7 @@ returns-2 c =
     let from = f .from .given .0 .0 in
     let ends : from + getD s (a .k) 0 ≡ bundleLength (take (a .k + 1) s) =
     omega (arith, next-length s (a .k) (search needs), reached (a .at + 6) (f .from .given .1) (f .before .before .put-head .ensures)) in
-    subst (λ (n : ℕ). Reaches (p .copy .result) n) ends (p .copy .ensures)
+    subst (λ (n : ℕ). WritesTo (p .copy .result) n) ends (p .copy .ensures)
 
 pub write-record-spec : {M : Type 1} → statement M
 write-record-spec =

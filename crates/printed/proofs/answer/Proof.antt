@@ -18,14 +18,14 @@ returns c =
     let a = w .before .before .args in
     rw (over (now (a .input)) (w .if1 .taken)) at (c .over-line .ensures)
 
-slice-aggregate-check : tie.Need-slice-aggregate-check
-slice-aggregate-check c = search needs
+slice-aggregate-set-job : tie.Need-slice-aggregate-set-job
+slice-aggregate-set-job c = search needs
 
-check-requires : tie.Need-check-requires
-check-requires c κs = search needs
+set-job-requires : tie.Need-set-job-requires
+set-job-requires c κs = search needs
 
-tracks-requires : tie.Need-tracks-requires
-tracks-requires c κs = search needs
+count-tracks-requires : tie.Need-count-tracks-requires
+count-tracks-requires c κs = search needs
 
 slice-aggregate-set-lines : tie.Need-slice-aggregate-set-lines
 slice-aggregate-set-lines c = search needs
@@ -40,7 +40,7 @@ returns-2 c =
     let o = k .before .before in
     let w = o .before .before in
     let a = w .before .before .args in
-    rw (held (now (a .input)) (w .if1 .left) (k .tracks .ensures) (o .check .ensures)) at (c .set-lines .ensures)
+    rw (held (now (a .input)) (w .if1 .left) (k .count-tracks .ensures) (o .set-job .ensures)) at (c .set-lines .ensures)
 
 pub answer-spec : {M : Type 1} → statement M
 answer-spec =
@@ -48,9 +48,9 @@ answer-spec =
     (tie.spec
     over-line-requires
     returns
-    slice-aggregate-check
-    check-requires
-    tracks-requires
+    slice-aggregate-set-job
+    set-job-requires
+    count-tracks-requires
     slice-aggregate-set-lines
     set-lines-requires
     returns-2)

@@ -3,8 +3,8 @@ use mathlib.Core.Path.{sym, _∙_}
 use native.Mathlib.Omega.{arith}
 use borrow.Author.Needs.{needs}
 use denote.Ref.{now}
-use Rattle.track.proofs.Table.{refused-is, is-accepted, is-refused}
-use Rattle.set.proofs.Outcomes.{has-first, first-is, first-breaks, others-break, all-hold}
+use Rattle.track.proofs.Table.{refused-is, accepted-known, refused-broken}
+use Rattle.set.proofs.Outcomes.{has-first, first-is, first-breaks, others-break, set-accepts}
 use Rattle.set.proofs.members.Statement.{statement}
 use Rattle.set.proofs.members.Tie as tie
 
@@ -18,21 +18,21 @@ others-requires : tie.Need-others-requires
 others-requires c κs =
     let b = c .before .before .before in
     let m = rw (b .before .before .before .mark .given .1) at (b .before .before .before .before .before .record-at .ensures .1) in
-    (is-accepted _ (sym (c .before .f0 .given .1) ∙ b .judge .ensures), omega (arith, m))
+    (accepted-known _ (sym (c .before .f0 .given .1) ∙ b .judge .ensures), omega (arith, m))
 
 accept-requires : tie.Need-accept-requires
 accept-requires c κs =
     let b = c .before .before .before .before .before in
-    is-accepted _ (sym (b .f0 .given .1) ∙ b .before .before .judge .ensures)
+    accepted-known _ (sym (b .f0 .given .1) ∙ b .before .before .judge .ensures)
 
 returns-2 : tie.Need-returns-2
 returns-2 c =
     let j = c .before .before .before .before in
     let m = j .before .before .before in
     let b = m .before .before .before .before .before in
-    refused-is (now (b .args .t)) _ 0 _ (c .refused2 .ensures)
+    refused-is (now (b .args .t)) _ 0 _ (c .refusal2 .ensures)
     ∙ first-breaks (now (b .args .b)) (now (b .args .t)) (b .pre .0) (b .pre .1) _ _ (first-is (now (b .args .b)) (m .before .before .record-at .ensures .0) (m .mark .given .1))
-    (is-refused _ (sym (c .before .before .number .given .1) ∙ j .judge .ensures))
+    (refused-broken _ (sym (c .before .before .number .given .1) ∙ j .judge .ensures))
 
 returns-3 : tie.Need-returns-3
 returns-3 c =
@@ -40,9 +40,9 @@ returns-3 c =
     let j = o .before .before .before .before in
     let m = j .before .before .before in
     let b = m .before .before .before .before .before in
-    refused-is (now (b .args .t)) _ _ _ (c .refused3 .ensures)
+    refused-is (now (b .args .t)) _ _ _ (c .refusal3 .ensures)
     ∙ others-break (now (b .args .b)) (now (b .args .t)) (b .pre .0) (b .pre .1) _ _ (first-is (now (b .args .b)) (m .before .before .record-at .ensures .0) (m .mark .given .1))
-    (is-accepted _ (sym (o .before .before .f0 .given .1) ∙ j .judge .ensures) .holds) (o .others .ensures) (c .before .before .number2 .given .1)
+    (accepted-known _ (sym (o .before .before .f0 .given .1) ∙ j .judge .ensures) .holds) (o .others .ensures) (c .before .before .number2 .given .1)
 
 returns-4 : tie.Need-returns-4
 returns-4 c =
@@ -51,8 +51,8 @@ returns-4 c =
     let m = j .before .before .before in
     let b = m .before .before .before .before .before in
     c .before .before .accept .ensures
-    ∙ all-hold (now (b .args .b)) (now (b .args .t)) (b .pre .0) (b .pre .1) _ _ (first-is (now (b .args .b)) (m .before .before .record-at .ensures .0) (m .mark .given .1))
-    (is-accepted _ (sym (o .before .before .f0 .given .1) ∙ j .judge .ensures) .holds) (o .others .ensures) (c .before .before .before .before .enum-told .given .1)
+    ∙ set-accepts (now (b .args .b)) (now (b .args .t)) (b .pre .0) (b .pre .1) _ _ (first-is (now (b .args .b)) (m .before .before .record-at .ensures .0) (m .mark .given .1))
+    (accepted-known _ (sym (o .before .before .f0 .given .1) ∙ j .judge .ensures) .holds) (o .others .ensures) (c .before .before .before .before .enum-told .given .1)
 
 pub members-spec : {M : Type 1} → statement M
 members-spec =

@@ -2,15 +2,15 @@
 use mathlib.Core.Path.{_∙_}
 use borrow.Author.Needs.{needs}
 use denote.Ref.{now}
-use Rattle.track.proofs.Table.{refused-is, known-rest, no-room, room}
+use Rattle.track.proofs.Table.{refused-is, known-rest, table-short, room}
 use Rattle.track.proofs.accept.Statement.{statement}
 use Rattle.track.proofs.accept.Tie as tie
 
 returns : tie.Need-returns
 returns c =
     let b = c .before .before .before .before .before in
-    refused-is (now (b .args .t)) 23 0 0 (c .refused .ensures)
-    ∙ no-room (now (b .args .s)) (now (b .args .t)) (b .args .f) (b .pre) (c .before .if1 .taken)
+    refused-is (now (b .args .t)) 23 0 0 (c .refusal .ensures)
+    ∙ table-short (now (b .args .s)) (now (b .args .t)) (b .args .f) (b .pre) (c .before .if1 .taken)
 
 write-boundaries-requires : tie.Need-write-boundaries-requires
 write-boundaries-requires c κs =

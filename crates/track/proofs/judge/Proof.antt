@@ -9,30 +9,30 @@ use denote.Ref.{now}
 use Rattle.rules.proofs.Forest.{look-found}
 use Rattle.boxes.proofs.Stands.{stands-here}
 use Rattle.framing.proofs.Steps.{known}
-use Rattle.track.proofs.Judging.{Going, going-begins, too-long, going-on, going-ends, going-breaks}
-use Rattle.track.proofs.Stepping.{passed-over}
+use Rattle.track.proofs.Judging.{Walking, walking-begins, over-limit, walking-on, walking-ends, walking-breaks}
+use Rattle.track.proofs.Stepping.{stopped, passed-over}
 use Rattle.track.proofs.judge.Statement.{statement}
 use Rattle.track.proofs.judge.Tie as tie
 
 abbrev Inv-loop : tie.InvT-loop
-Inv-loop s at₀ count₀ course₀ at count course = Going s at count course
+Inv-loop s at₀ count₀ course₀ at count course = Walking s at count course
 
 abbrev μ-loop : tie.MeasureT-loop
 μ-loop s at₀ count₀ course₀ at count course = length s - at
 
 returns : tie.Need-returns Inv-loop μ-loop
-returns c = too-long (now (c .before .before .args .s)) (c .if1 .taken)
+returns c = over-limit (now (c .before .before .args .s)) (c .if1 .taken)
 
 loop-holds : tie.Need-loop-holds Inv-loop μ-loop
-loop-holds c = going-begins _
+loop-holds c = walking-begins _
 
 top-box-requires : tie.Need-top-box-requires Inv-loop μ-loop
 top-box-requires c κs = omega (arith, c .before .if1 .left)
 
-after-requires : tie.Need-after-requires Inv-loop μ-loop
-after-requires c κs =
+and-box-requires : tie.Need-and-box-requires Inv-loop μ-loop
+and-box-requires c κs =
     let k = known _ _ _ _ _ (c .before .before .before .head .given .1) (c .before .before .before .before .before .top-box .ensures) in
-    (c .before .before .before .before .before .before .loop .inv .fits, stands-here (look-found _ _ _ _ _ (k .1)), c .before .before .before .before .before .before .before .if1 .left)
+    (c .before .before .before .before .before .before .loop .inv .fits, stands-here (look-found _ _ _ _ _ (k .1)), c .before .before .before .before .before .before .before .if1 .left, stopped (c .before .passes .result) _ _ (c .before .passes .ensures) (c .if2 .taken))
 
 add-at : tie.Need-add-at Inv-loop μ-loop
 add-at c =
@@ -47,19 +47,19 @@ loop-less c =
 loop-again : tie.Need-loop-again Inv-loop μ-loop
 loop-again c =
     let k = known _ _ _ _ _ (c .before .before .before .head .given .1) (c .before .before .before .before .before .top-box .ensures) in
-    let g = going-on _ (c .before .before .before .before .before .before .loop .inv) (k .0) (k .1) in
+    let g = walking-on _ (c .before .before .before .before .before .before .loop .inv) (k .0) (k .1) in
     ⊎-elim (λ x. rw (x .2, x .1 .ensures) g)
-    (λ x. rw (x .1) (subst (Going _ _ _) (passed-over (c .before .passes .result) _ _ (c .before .passes .ensures) (x .0 .left) _ _) g))
+    (λ x. rw (x .1) (subst (Walking _ _ _) (passed-over (c .before .passes .result) _ _ (c .before .passes .ensures) (x .0 .left) _ _) g))
     (c .if2 .came)
 
 returns-2 : tie.Need-returns-2 Inv-loop μ-loop
 returns-2 c =
     let k = known _ _ _ _ _ (c .before .enum-told .given .1) (c .before .before .before .top-box .ensures) in
-    going-ends _ (c .before .before .before .before .loop .inv) (c .before .before .before .before .before .if1 .left) (k .0) (k .1) (c .ended .ensures)
+    walking-ends _ (c .before .before .before .before .loop .inv) (c .before .before .before .before .before .if1 .left) (k .0) (k .1) (c .course-end .ensures)
 
 returns-3 : tie.Need-returns-3 Inv-loop μ-loop
 returns-3 c =
-    going-breaks _ (c .before .before .before .before .loop .inv) (c .before .before .before .before .before .if1 .left)
+    walking-breaks _ (c .before .before .before .before .loop .inv) (c .before .before .before .before .before .if1 .left)
     (known _ _ _ _ _ (c .before .number .given .1) (c .before .before .before .top-box .ensures))
 
 pub judge-spec : {M : Type 1} → statement M
@@ -73,7 +73,7 @@ judge-spec =
     top-box-requires
     (λ c. search needs)
     (λ c κs. search needs)
-    after-requires
+    and-box-requires
     add-at
     loop-less
     loop-again

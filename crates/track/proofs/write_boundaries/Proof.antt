@@ -17,8 +17,8 @@ abbrev μ-loop : tie.MeasureT-loop
 loop-holds : tie.Need-loop-holds Inv-loop μ-loop
 loop-holds c = let p = c .before .before .pre in writing-begins _ _ (p .0) (p .1) (p .2)
 
-put-end-requires : tie.Need-put-end-requires Inv-loop μ-loop
-put-end-requires c κs = end-room _ _ (c .before .before .before .before .loop .inv) (rw (c .before .enum-told .given .1) at (c .before .before .before .next-fragment .ensures))
+put-last-requires : tie.Need-put-last-requires Inv-loop μ-loop
+put-last-requires c κs = end-room _ _ (c .before .before .before .before .loop .inv) (rw (c .before .enum-told .given .1) at (c .before .before .before .next-fragment .ensures))
 
 same-length : tie.Need-same-length Inv-loop μ-loop
 same-length c = c .before .t .given ∙ c .before .before .before .before .before .before .before .loop .inv .same
@@ -27,7 +27,7 @@ returns : tie.Need-returns Inv-loop μ-loop
 returns c =
     writing-ends _ _ (c .before .before .before .before .before .before .before .loop .inv)
     (rw (c .before .before .before .before .enum-told .given .1) at (c .before .before .before .before .before .before .next-fragment .ensures))
-    (c .before .before .put-end .ensures)
+    (c .before .before .put-last .ensures)
 
 mul-t : tie.Need-mul-t Inv-loop μ-loop
 mul-t c =
@@ -62,7 +62,7 @@ write-boundaries-spec =
     (λ c κs. c .loop .inv .short)
     (λ c. search needs)
     (λ c. search needs)
-    put-end-requires
+    put-last-requires
     same-length
     returns
     mul-t

@@ -5,13 +5,13 @@ use native.Mathlib.Omega.{arith}
 use borrow.Author.Needs.{needs}
 use lib.ListN.{length, length-set}
 use denote.Ref.{now}
-use Rattle.vectors.specs.Tables.{Filled}
+use Rattle.vectors.specs.Tables.{FilledTo}
 use Rattle.vectors.proofs.Tables.{none, one-more}
 use Rattle.vectors.proofs.fill.Statement.{statement}
 use Rattle.vectors.proofs.fill.Tie as tie
 
 abbrev Inv-loop : tie.InvT-loop
-Inv-loop t₀ i₀ t i = (i ≤ length t) × (length t ≡ length t₀) × Filled t i
+Inv-loop t₀ i₀ t i = (i ≤ length t) × (length t ≡ length t₀) × FilledTo t i
 
 abbrev μ-loop : tie.MeasureT-loop
 μ-loop t₀ i₀ t i = length t₀ - i

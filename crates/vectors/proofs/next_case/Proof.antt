@@ -1,6 +1,7 @@
 -- `vectors::next_case` is safe and ends. Assumes nothing.
+use mathlib.Core.Path.{sym}
+use lib.Seq.{length-take-le}
 use borrow.Author.Needs.{needs}
-use Rattle.vectors.proofs.Tables.{front}
 use Rattle.vectors.proofs.next_case.Statement.{statement}
 use Rattle.vectors.proofs.next_case.Tie as tie
 
@@ -41,7 +42,7 @@ slice-relend-prefix-read-full : tie.Need-slice-relend-prefix-read-full
 slice-relend-prefix-read-full c = search needs
 
 slice-aggregate-read-full-2 : tie.Need-slice-aggregate-read-full-2
-slice-aggregate-read-full-2 c = front _ _ (search needs)
+slice-aggregate-read-full-2 c = sym (length-take-le _ _ (search needs))
 
 read-full-requires-2 : tie.Need-read-full-requires-2
 read-full-requires-2 c κs = search needs
@@ -59,13 +60,13 @@ slice-reshare-prefix-print-case : tie.Need-slice-reshare-prefix-print-case
 slice-reshare-prefix-print-case c = search needs
 
 slice-aggregate-print-case : tie.Need-slice-aggregate-print-case
-slice-aggregate-print-case c = front _ _ (search needs)
+slice-aggregate-print-case c = sym (length-take-le _ _ (search needs))
 
 slice-relend-prefix-print-case : tie.Need-slice-relend-prefix-print-case
 slice-relend-prefix-print-case c = search needs
 
 slice-aggregate-print-case-2 : tie.Need-slice-aggregate-print-case-2
-slice-aggregate-print-case-2 c = front _ _ (search needs)
+slice-aggregate-print-case-2 c = sym (length-take-le _ _ (search needs))
 
 print-case-requires : tie.Need-print-case-requires
 print-case-requires c κs = search needs

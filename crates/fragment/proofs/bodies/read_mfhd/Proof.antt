@@ -1,7 +1,7 @@
 -- `fragment::bodies::read_mfhd` meets its contract. Assumes nothing.
 use mathlib.Core.Path.{sym, _∙_}
 use borrow.Author.Needs.{needs}
-use Rattle.fragment.proofs.Formed.{body-right, body-wrong}
+use Rattle.runs.proofs.Formed.{body-right, body-wrong}
 use Rattle.fragment.proofs.bodies.read_mfhd.Statement.{statement}
 use Rattle.fragment.proofs.bodies.read_mfhd.Tie as tie
 

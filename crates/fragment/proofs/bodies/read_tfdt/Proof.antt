@@ -1,7 +1,8 @@
 -- `fragment::bodies::read_tfdt` meets its contract. Assumes nothing.
 use native.Mathlib.Omega.{arith}
 use borrow.Author.Needs.{needs}
-use Rattle.fragment.proofs.Formed.{body-right, body-wrong, start-other, start-one}
+use Rattle.runs.proofs.Formed.{body-right, body-wrong}
+use Rattle.fragment.proofs.Formed.{start-other, start-one}
 use Rattle.fragment.proofs.bodies.read_tfdt.Statement.{statement}
 use Rattle.fragment.proofs.bodies.read_tfdt.Tie as tie
 

@@ -3,7 +3,8 @@ use mathlib.Core.Path.{sym, _∙_}
 use native.Mathlib.Omega.{arith}
 use borrow.Author.Needs.{needs}
 use borrow.Author.Tests.{not-true, not-false}
-use Rattle.fragment.proofs.Formed.{body-right, body-wrong, tfhd-low, tfhd-short, plain-size}
+use Rattle.runs.proofs.Formed.{body-right, body-wrong}
+use Rattle.fragment.proofs.Formed.{tfhd-low, tfhd-short, plain-size}
 use Rattle.fragment.proofs.bodies.read_tfhd.Statement.{statement}
 use Rattle.fragment.proofs.bodies.read_tfhd.Tie as tie
 

@@ -3,7 +3,7 @@ use mathlib.Core.Path.{sym, _∙_}
 use native.Mathlib.Omega.{arith}
 use borrow.Author.Needs.{needs}
 use Rattle.rules.specs.Fragment.{defaultsIn}
-use Rattle.fragment.proofs.Flags.{reach-duration, reach-size, reach-flags}
+use Rattle.fragment.proofs.Formed.{reach-duration, reach-size, reach-flags}
 use Rattle.fragment.proofs.layout.defaults.Statement.{statement}
 use Rattle.fragment.proofs.layout.defaults.Tie as tie
 

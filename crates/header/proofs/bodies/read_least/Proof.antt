@@ -1,6 +1,6 @@
 -- `header::bodies::read_least` meets its contract. Assumes nothing.
 use borrow.Author.Needs.{needs}
-use Rattle.header.proofs.Read.{good, bad, least-fits}
+use Rattle.header.proofs.Read.{good-body, bad, least-fits}
 use Rattle.header.proofs.bodies.read_least.Statement.{statement}
 use Rattle.header.proofs.bodies.read_least.Tie as tie
 
@@ -10,7 +10,7 @@ word-requires c κs =
     (p .0, least-fits _ _ (p .0) _ _ (p .1) (c .before .is-at-least .ensures) (c .if1 .taken))
 
 returns : tie.Need-returns
-returns c = (good _ _ _ (c .before .before .is-at-least .ensures) (c .before .if1 .taken), c .word .ensures)
+returns c = (good-body _ _ _ (c .before .before .is-at-least .ensures) (c .before .if1 .taken), c .word .ensures)
 
 returns-2 : tie.Need-returns-2
 returns-2 c = bad _ _ _ (c .before .is-at-least .ensures) (c .if1 .left)

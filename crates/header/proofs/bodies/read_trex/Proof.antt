@@ -3,7 +3,7 @@ use mathlib.Core.Path.{_≡_}
 use Prim.Native.Nat.{_+_}
 use native.Mathlib.Omega.{arith}
 use borrow.Author.Needs.{needs}
-use Rattle.header.proofs.Read.{good, bad, plain-fits, defaults-are}
+use Rattle.header.proofs.Read.{good-body, bad, plain-fits, defaults-are}
 use Rattle.header.proofs.bodies.read_trex.Statement.{statement}
 use Rattle.header.proofs.bodies.read_trex.Tie as tie
 
@@ -25,7 +25,7 @@ word-requires-4 c κs = (c .before .before .before .before .before .before .pre,
 
 returns : tie.Need-returns
 returns c =
-    (good _ _ _ (c .before .before .before .before .before .is-plain .ensures) (c .before .before .before .before .if1 .taken), c .before .before .before .word .ensures, defaults-are _ _ (c .before .before .word2 .ensures) (c .before .word3 .ensures) (c .word4 .ensures))
+    (good-body _ _ _ (c .before .before .before .before .before .is-plain .ensures) (c .before .before .before .before .if1 .taken), c .before .before .before .word .ensures, defaults-are _ _ (c .before .before .word2 .ensures) (c .before .word3 .ensures) (c .word4 .ensures))
 
 returns-2 : tie.Need-returns-2
 returns-2 c = bad _ _ _ (c .before .is-plain .ensures) (c .if1 .left)

@@ -7,39 +7,39 @@ use Rattle.rules.specs.Kinds.{stsd, stts, stsc, stsz, stco}
 use Rattle.rules.specs.Header.{dinfIn, stblIn}
 use Rattle.rules.specs.declared.Entry.the-variants.{One}
 use Rattle.counts.proofs.Firsts.{counts-1, counts-2}
-use Rattle.header.specs.Places.{At}
+use Rattle.boxes.specs.Stands.{StandsAt}
 use Rattle.header.proofs.Found.{met, judged, judged-join}
 use Rattle.header.proofs.containers.in_minf.Statement.{statement}
 use Rattle.header.proofs.containers.in_minf.Tie as tie
 
 -- where `dinf` and `stbl` stand
-dinf : (c : tie.After-counts) → At (now (c .before .before .args .m)) (dinfIn (now (c .before .before .args .m))) (c .counts .result .b .first)
+dinf : (c : tie.After-count-boxes) → StandsAt (now (c .before .before .args .m)) (dinfIn (now (c .before .before .args .m))) (c .count-boxes .result .b .first)
 unfolding dinfIn
-dinf c = met (c .before .before .pre) (c .counts .ensures .b)
+dinf c = met (c .before .before .pre) (c .count-boxes .ensures .b)
 
-stbl : (c : tie.After-counts) → At (now (c .before .before .args .m)) (stblIn (now (c .before .before .args .m))) (c .counts .result .c .first)
+stbl : (c : tie.After-count-boxes) → StandsAt (now (c .before .before .args .m)) (stblIn (now (c .before .before .args .m))) (c .count-boxes .result .c .first)
 unfolding stblIn
-stbl c = met (c .before .before .pre) (c .counts .ensures .c)
+stbl c = met (c .before .before .pre) (c .count-boxes .ensures .c)
 
-counts-requires-2 : tie.Need-counts-requires-2
-counts-requires-2 c κs = dinf (c .before .before .before) .stands
+count-boxes-requires-2 : tie.Need-count-boxes-requires-2
+count-boxes-requires-2 c κs = dinf (c .before .before .before) .stands
 
-counts-requires-3 : tie.Need-counts-requires-3
-counts-requires-3 c κs = stbl (c .before .before .before .before) .stands
+count-boxes-requires-3 : tie.Need-count-boxes-requires-3
+count-boxes-requires-3 c κs = stbl (c .before .before .before .before) .stands
 
-counts-requires-4 : tie.Need-counts-requires-4
-counts-requires-4 c κs = stbl (c .before .before .before .before .before .before .before .before) .stands
+count-boxes-requires-4 : tie.Need-count-boxes-requires-4
+count-boxes-requires-4 c κs = stbl (c .before .before .before .before .before .before .before .before) .stands
 
 returns : tie.Need-returns
 returns c =
     let x = c .before .before .before .before .before .before .before .before .before .before .before .before .before .before .pre in
     let y = stbl (c .before .before .before .before .before .before .before .before .before .before .before .before) in
-    let i = c .before .before .before .before .before .before .before .before .before .before .before .before .counts .ensures in
-    let k = c .before .before .before .before .before .before .before .counts3 .ensures in
-    let l = c .before .before .before .counts4 .ensures in
+    let i = c .before .before .before .before .before .before .before .before .before .before .before .before .count-boxes .ensures in
+    let k = c .before .before .before .before .before .before .before .count-boxes3 .ensures in
+    let l = c .before .before .before .count-boxes4 .ensures in
     record {
       minf = judged x i refl;
-      dinf = judged (dinf (c .before .before .before .before .before .before .before .before .before .before .before .before)) (c .before .before .before .before .before .before .before .before .counts2 .ensures) (counts-1 _ _ _ _);
+      dinf = judged (dinf (c .before .before .before .before .before .before .before .before .before .before .before .before)) (c .before .before .before .before .before .before .before .before .count-boxes2 .ensures) (counts-1 _ _ _ _);
       stbl = judged-join _ (One stsd ∷ One stts ∷ One stsc ∷ []) (One stsz ∷ One stco ∷ []) (c .first-broken .ensures) (judged y k refl) (judged y l (counts-2 _ _ _ _ _));
       media = met x (i .a);
       stsd = met y (k .a);
@@ -54,8 +54,8 @@ in-minf-spec =
     tie.close
     (tie.spec
     (λ c κs. search needs)
-    counts-requires-2
-    counts-requires-3
-    counts-requires-4
+    count-boxes-requires-2
+    count-boxes-requires-3
+    count-boxes-requires-4
     (λ c κs. search needs)
     returns)

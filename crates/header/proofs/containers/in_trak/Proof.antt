@@ -7,33 +7,33 @@ use Rattle.rules.specs.Kinds.{mdhd, hdlr, elng, minf}
 use Rattle.rules.specs.Header.{mdiaIn, minfIn}
 use Rattle.rules.specs.declared.Entry.the-variants.{One, AtMostOne}
 use Rattle.counts.proofs.Firsts.{counts-1}
-use Rattle.header.specs.Places.{At}
+use Rattle.boxes.specs.Stands.{StandsAt}
 use Rattle.header.proofs.Found.{met, judged, judged-if, judged-join}
 use Rattle.header.proofs.containers.in_trak.Statement.{statement}
 use Rattle.header.proofs.containers.in_trak.Tie as tie
 
 -- where `mdia` stands
-mdia : (c : tie.After-counts) → At (now (c .before .before .args .m)) (mdiaIn (now (c .before .before .args .m))) (c .counts .result .c .first)
+mdia : (c : tie.After-count-boxes) → StandsAt (now (c .before .before .args .m)) (mdiaIn (now (c .before .before .args .m))) (c .count-boxes .result .c .first)
 unfolding mdiaIn
-mdia c = met (c .before .before .pre) (c .counts .ensures .c)
+mdia c = met (c .before .before .pre) (c .count-boxes .ensures .c)
 
-counts-requires-2 : tie.Need-counts-requires-2
-counts-requires-2 c κs = mdia (c .before .before .before) .stands
+count-boxes-requires-2 : tie.Need-count-boxes-requires-2
+count-boxes-requires-2 c κs = mdia (c .before .before .before) .stands
 
-counts-requires-3 : tie.Need-counts-requires-3
-counts-requires-3 c κs = mdia (c .before .before .before .before .before .before) .stands
+count-boxes-requires-3 : tie.Need-count-boxes-requires-3
+count-boxes-requires-3 c κs = mdia (c .before .before .before .before .before .before) .stands
 
 counts-if-requires : tie.Need-counts-if-requires
-counts-if-requires c κs = c .before .before .before .before .before .before .before .before .counts .ensures .b .stands
+counts-if-requires c κs = c .before .before .before .before .before .before .before .before .count-boxes .ensures .b .stands
 
 returns : tie.Need-returns
 unfolding minfIn
 returns c =
     let x = c .before .before .before .before .before .before .before .before .before .before .before .before .pre in
     let y = mdia (c .before .before .before .before .before .before .before .before .before .before) in
-    let t = c .before .before .before .before .before .before .before .before .before .before .counts .ensures in
-    let k = c .before .before .before .before .before .before .counts2 .ensures in
-    let l = c .before .before .before .counts3 .ensures in
+    let t = c .before .before .before .before .before .before .before .before .before .before .count-boxes .ensures in
+    let k = c .before .before .before .before .before .before .count-boxes2 .ensures in
+    let l = c .before .before .before .count-boxes3 .ensures in
     record {
       trak = judged x t refl;
       edts = judged-if x _ (t .b) (c .before .counts-if .ensures .0) (c .before .counts-if .ensures .1);
@@ -49,8 +49,8 @@ in-trak-spec =
     tie.close
     (tie.spec
     (λ c κs. search needs)
-    counts-requires-2
-    counts-requires-3
+    count-boxes-requires-2
+    count-boxes-requires-3
     counts-if-requires
     (λ c κs. search needs)
     returns)

@@ -6,18 +6,18 @@ use native.Mathlib.Omega.{arith}
 use lib.ListN.{length}
 use borrow.Author.Needs.{needs}
 use Rattle.rules.specs.Rules.{must}
-use Rattle.set.proofs.Beside.{Going, going-begins, going-ends, going-short, going-on, going-differs}
+use Rattle.set.proofs.Beside.{BesideGoing, beside-begins, beside-ends, beside-short, beside-on, beside-differs}
 use Rattle.set.proofs.agree.same_boundaries.Statement.{statement}
 use Rattle.set.proofs.agree.same_boundaries.Tie as tie
 
 abbrev Inv-loop : tie.InvT-loop
-Inv-loop s0 end0 s end at0₀ at₀ last₀ at0 at last = Going s0 end0 s end at0 at last
+Inv-loop s0 end0 s end at0₀ at₀ last₀ at0 at last = BesideGoing s0 end0 s end at0 at last
 
 abbrev μ-loop : tie.MeasureT-loop
 μ-loop s0 end0 s end at0₀ at₀ last₀ at0 at last = length s0 - at0
 
 loop-holds : tie.Need-loop-holds Inv-loop μ-loop
-loop-holds c = let p = c .before .before .pre in going-begins _ _ (p .1 .0) (p .1 .1) (p .1 .2)
+loop-holds c = let p = c .before .before .pre in beside-begins _ _ (p .1 .0) (p .1 .1) (p .1 .2)
 
 next-fragment-requires : tie.Need-next-fragment-requires Inv-loop μ-loop
 next-fragment-requires c κs = c .before .before .before .pre .0 .0
@@ -26,7 +26,7 @@ returns : tie.Need-returns Inv-loop μ-loop
 returns c =
     c .must .ensures
     ∙ ap (λ (t : Bool). must t 28 (c .before .before .before .before .before .loop .last)) (c .before .same-end .ensures)
-    ∙ sym (going-ends _ _ (c .before .before .before .before .before .loop .inv) (rw (c .before .before .enum-told .given .1) at (c .before .before .before .before .next-fragment .ensures)))
+    ∙ sym (beside-ends _ _ (c .before .before .before .before .before .loop .inv) (rw (c .before .before .enum-told .given .1) at (c .before .before .before .before .next-fragment .ensures)))
 
 next-fragment-requires-2 : tie.Need-next-fragment-requires-2 Inv-loop μ-loop
 next-fragment-requires-2 c κs = c .before .before .before .before .before .before .before .pre .0 .1
@@ -34,7 +34,7 @@ next-fragment-requires-2 c κs = c .before .before .before .before .before .befo
 returns-2 : tie.Need-returns-2 Inv-loop μ-loop
 returns-2 c =
     absurd
-    (going-short _ _ (c .before .before .before .before .before .before .before .before .before .loop .inv)
+    (beside-short _ _ (c .before .before .before .before .before .before .before .before .before .loop .inv)
     (rw (c .before .before .before .before .before .before .c0 .given .1) at (c .before .before .before .before .before .before .before .before .next-fragment .ensures))
     (rw (c .before .before .enum-told2 .given .1) at (c .before .before .before .before .next-fragment2 .ensures)))
 
@@ -42,7 +42,7 @@ returns-3 : tie.Need-returns-3 Inv-loop μ-loop
 returns-3 c =
     c .must3 .ensures
     ∙ sym
-    (going-differs _ _ (c .before .before .before .before .before .before .before .before .before .before .loop .inv)
+    (beside-differs _ _ (c .before .before .before .before .before .before .before .before .before .before .loop .inv)
     (rw (c .before .before .before .before .before .before .before .c0 .given .1) at (c .before .before .before .before .before .before .before .before .before .next-fragment .ensures))
     (rw (c .before .before .before .c .given .1) at (c .before .before .before .before .before .next-fragment2 .ensures))
     (c .before .if1 .taken))
@@ -54,7 +54,7 @@ loop-less c =
 
 loop-again : tie.Need-loop-again Inv-loop μ-loop
 loop-again c =
-    going-on _ _ (c .before .before .before .before .before .before .before .before .before .loop .inv)
+    beside-on _ _ (c .before .before .before .before .before .before .before .before .before .loop .inv)
     (rw (c .before .before .before .before .before .before .c0 .given .1) at (c .before .before .before .before .before .before .before .before .next-fragment .ensures))
     (rw (c .before .before .c .given .1) at (c .before .before .before .before .next-fragment2 .ensures))
     (c .if1 .left)

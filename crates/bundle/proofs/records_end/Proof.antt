@@ -1,0 +1,13 @@
+-- `bundle::records_end` meets its contract. Assumes nothing.
+use borrow.Author.Tests.{eq-eqb, ne-eqb}
+use Rattle.bundle.proofs.records_end.Statement.{statement}
+use Rattle.bundle.proofs.records_end.Tie as tie
+
+returns : tie.Need-returns
+returns c = rw (eq-eqb _ _ (c .if1 .taken))
+
+returns-2 : tie.Need-returns-2
+returns-2 c = rw (ne-eqb _ _ (c .if1 .left))
+
+pub records-end-spec : {M : Type 1} → statement M
+records-end-spec = tie.close (tie.spec returns returns-2)

@@ -1,0 +1,123 @@
+-- One pass: the same rules, taken one box at a time. What a track has come to after some of its boxes is a stage of rule 6, with the rules so far. The
+-- header is judged where `moov` is met in order, a fragment where its `mdat` is; after the first broken rule of these no more are judged, but the order
+-- goes on; where the order is broken, that decides.
+use Prim.Native.Nat.{ℕ, _+_}
+use mathlib.Core.List.{List, [], _∷_}
+use lib.ListN.{length}
+use Rattle.numbers.specs.Numbers.{when}
+use Rattle.rules.specs.Rules.{_then_}
+use Rattle.rules.specs.Boxes.{Box, boxes, whole}
+use Rattle.rules.specs.Order.{ordered, step6, onStepped}
+use Rattle.rules.specs.Header.{headerRules, ftypIn, headerIn, placesIn}
+use Rattle.rules.specs.Track.{headerOf, fragments, fragmentCount, shapeAt, timingAt, endAt, lastEnd, ruling}
+use Rattle.rules.specs.Set.{mdhdAt, hdlrAt}
+use Rattle.rules.specs.declared.Course.{Course}
+use Rattle.rules.specs.declared.Course.the-variants.{On, Broken}
+use Rattle.rules.specs.declared.Ftyp.{Ftyp}
+use Rattle.rules.specs.declared.Judged.{Judged}
+use Rattle.rules.specs.declared.Judged.the-variants.{Accepted, Refused}
+use Rattle.rules.specs.declared.Previous.the-variants.{Unset, End}
+use Rattle.rules.specs.declared.Reached.{Reached}
+use Rattle.rules.specs.declared.Reached.the-variants.{Start, Typed, Headed, Halved, Paired}
+use Rattle.rules.specs.declared.Rule.{Rule}
+use Rattle.rules.specs.declared.Rule.the-variants.{Holds, Breaks}
+use Rattle.rules.specs.declared.Spot.{Spot}
+use Rattle.rules.specs.declared.Stage.{Stage}
+use Rattle.rules.specs.declared.Stage.the-variants as stage
+use Rattle.rules.specs.declared.TrackFacts.{TrackFacts}
+
+-- a rule, with what is known where it holds
+unfoldable pub judgedBy : Rule → TrackFacts → Judged
+judgedBy Holds f = Accepted f
+judgedBy (Breaks n t p) f = Refused n t p
+
+-- what is known by `moov` at a place: no fragment yet
+unfoldable pub openedFacts : List ℕ → ℕ → TrackFacts
+openedFacts s at =
+    let m = whole s at in
+    record { header = headerIn m; mdhd = at + placesIn m .mdhd; hdlr = at + placesIn m .hdlr; fragments = 0; end = Unset }
+
+-- `moov` at a place, after `ftyp`: the header's rules
+unfoldable pub opened : List ℕ → Ftyp → ℕ → Judged
+opened s f at = judgedBy (headerRules at f (whole s at)) (openedFacts s at)
+
+-- a track with one fragment more, at x
+unfoldable pub grown : List ℕ → TrackFacts → ℕ → TrackFacts
+grown s f x =
+    record {
+      header = f .header;
+      mdhd = f .mdhd;
+      hdlr = f .hdlr;
+      fragments = f .fragments + 1;
+      end = End (endAt s (f .header) x);
+    }
+
+-- the fragment at x, with its `mdat`: its rules, unless one was broken before
+unfoldable pub joined : List ℕ → Judged → ℕ → Judged
+joined s (Accepted f) x =
+    judgedBy (shapeAt s (f .header) x then timingAt s (f .header) (f .end) x) (grown s f x)
+joined s (Refused n t p) x = Refused n t p
+
+-- the stage of rule 6 that is reached
+abbrev pub stageOf : Reached → Stage
+stageOf Start = stage.Start
+stageOf (Typed f) = stage.Typed
+stageOf (Headed j) = stage.Headed
+stageOf (Halved j m) = stage.Halved
+stageOf (Paired j) = stage.Paired
+
+-- where a box stands
+abbrev pub spotOf : Box → Spot
+spotOf x = record { at = x .at; head = x .inner; size = x .size }
+
+-- what the box that a stage awaits brings
+unfoldable pub brought : List ℕ → Reached → Spot → Reached
+brought s Start b = Typed (ftypIn (whole s (b .at)))
+brought s (Typed f) b = Headed (opened s f (b .at))
+brought s (Headed j) b = Halved j b
+brought s (Halved j m) b = Paired (joined s j (m .at))
+brought s (Paired j) b = Halved j b
+
+-- one box more: rule 6 tells whether it may stand there; of the four types it is the awaited one, any other is passed over
+unfoldable pub andBox : List ℕ → Course → Box → Course
+andBox s (Broken p) x = Broken p
+andBox s (On c) x =
+    onStepped (step6 (stageOf c) (x .kind)) (λ g. On (when (ordered (x .kind)) (brought s c (spotOf x)) c)) (Broken (x .at))
+
+-- all the boxes of a run, one after the other
+unfoldable pub courseFrom : List ℕ → Course → List Box → Course
+courseFrom s c [] = c
+courseFrom s c (x ∷ xs) = courseFrom s (andBox s c x) xs
+
+-- where a slice of some bytes has no more boxes: after a pair the rules so far decide, anywhere else the order is broken
+unfoldable pub courseEnd : ℕ → Course → Judged
+courseEnd len (Broken p) = Refused 6 0 p
+courseEnd len (On (Paired j)) = j
+courseEnd len (On Start) = Refused 6 0 len
+courseEnd len (On (Typed f)) = Refused 6 0 len
+courseEnd len (On (Headed j)) = Refused 6 0 len
+courseEnd len (On (Halved j m)) = Refused 6 0 len
+
+-- the course over a slice
+unfoldable pub courseOf : List ℕ → Judged
+courseOf s = courseEnd (length s) (courseFrom s (On Start) (boxes s 0))
+
+-- what is known of a track
+unfoldable pub factsOf : List ℕ → TrackFacts
+factsOf s =
+    record {
+      header = headerOf s;
+      mdhd = mdhdAt s;
+      hdlr = hdlrAt s;
+      fragments = fragmentCount s;
+      end = lastEnd s (headerOf s) Unset (fragments s);
+    }
+
+-- every rule of a track but room, with what is known of it
+unfoldable pub judgement : List ℕ → Judged
+judgement s = judgedBy (ruling s) (factsOf s)
+
+-- the mark of this file: its definitions unfold wherever it does
+unfoldable pub computedCourse : Unit {0}
+unfolding judgedBy openedFacts opened grown joined brought andBox courseFrom courseEnd courseOf factsOf judgement
+computedCourse = tt

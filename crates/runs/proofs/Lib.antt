@@ -1,0 +1,4 @@
+pub mod Flags
+pub mod Formed
+pub mod Sums
+pub mod Walked
