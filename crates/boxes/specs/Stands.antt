@@ -21,5 +21,5 @@ pub record StandsAt (s : List ℕ) (p : ℕ) (b : Spot) : Type 0 where
   pub place : b .at ≡ p
 
 -- the slice is one box with a header of h bytes
-abbrev pub Whole : List ℕ → ℕ → Type 0
-Whole s h = Stands s (record { at = 0; head = h; size = length s })
+abbrev pub WholeBox : List ℕ → ℕ → Type 0
+WholeBox s h = Stands s (record { at = 0; head = h; size = length s })

@@ -1,4 +1,4 @@
-// Boxes in bytes: one header, the containers, where a box stands.
+// Boxes in bytes: one header, and the containers.
 pub mod kinds;
 
 use kinds::DINF;

@@ -12,7 +12,7 @@ use Rattle.rules.specs.Track.{rule1}
 use Rattle.rules.specs.Bundle.{rule24, tracks}
 use Rattle.rules.specs.declared.Rule.the-variants.{Holds}
 use Rattle.rules.proofs.Then.{must-true}
-use Rattle.bundle.specs.Front.{recordOf, bundleOf, Lengthed, bundleLength}
+use Rattle.bundle.specs.Front.{recordOf, bundleOf, LengthsFit, bundleLength}
 use Rattle.bundle.proofs.Written.{packed, unpacked}
 
 -- one track more at the end
@@ -46,7 +46,7 @@ bundle-length [] = refl
 bundle-length (s ∷ ss) = omega (arith, length-append (recordOf s) (bundleOf ss), bundle-length ss)
 
 -- within the limit each length fits in four bytes
-each-fits : (ss : List (List ℕ)) → bundleLength (map length ss) ≤ byteLimit → Lengthed ss
+each-fits : (ss : List (List ℕ)) → bundleLength (map length ss) ≤ byteLimit → LengthsFit ss
 unfolding bundleLength
 each-fits [] h = tt
 each-fits (s ∷ ss) h = (omega arith, each-fits ss (omega arith))

@@ -75,7 +75,7 @@ going-begins b = record { rule = refl; count = omega arith; few = omega arith; i
 
 -- k records and no bytes after them
 ended-says : (b : List ℕ) (k : ℕ) → rule24 b ≡ rule24From k none → length (tracks b) ≡ k → saysBundle (endedOf k) b
-unfolding rule24From
+unfolding endedOf rule24From
 ended-says b zero e f = (e, sym f)
 ended-says b (suc k) e f =
     rw (eqb·suc-zero k) (e ∙ ap (λ (t : Bool). when t (Breaks 24 0 0) Holds) (eqb·suc-zero k), sym f, omega arith)

@@ -12,7 +12,7 @@ use Rattle.numbers.proofs.Bounds.{Reads, reads2, reads4, in-drop}
 use Rattle.rules.specs.Bundle.{lengthed, markAt, recordAt, Records, none, track, recordsFrom, records, rule24From, rule24, tracksOf, tracks}
 use Rattle.rules.specs.declared.Mark.the-variants.{Nothing, Track}
 use Rattle.rules.specs.declared.Rule.the-variants.{Holds}
-use Rattle.bundle.specs.Front.{frontOf, recordOf, bundleOf, Lengthed}
+use Rattle.bundle.specs.Front.{frontOf, recordOf, bundleOf, LengthsFit}
 
 -- four digits in base 256
 sum : (n c b a d₀ d₁ d₂ d₃ : ℕ) → c * 256 + d₀ ≡ n → b * 256 + d₁ ≡ c → a * 256 + d₂ ≡ b → d₃ ≡ a
@@ -64,7 +64,7 @@ standing : ℕ → List (List ℕ) → Records
 standing at [] = none
 standing at (s ∷ ss) = track (at + 6) (length s) (standing (at + 6 + length s) ss)
 
-shaped : (f : ℕ) (p : List ℕ) (ss : List (List ℕ)) → length ss ≤ f → Lengthed ss
+shaped : (f : ℕ) (p : List ℕ) (ss : List (List ℕ)) → length ss ≤ f → LengthsFit ss
     → recordsFrom f (p ++ bundleOf ss) (length p) ≡ standing (length p) ss
 unfolding recordsFrom bundleOf standing
 shaped zero p [] h w = rw (le-ltb (length p) (length (p ++ [])) (omega (arith, length-append p [])))
@@ -86,7 +86,7 @@ held k at [] h = rw (ne-eqb k 0 (λ e. absurd (omega arith)))
 held k at (s ∷ ss) h = held (k + 1) (at + 6 + length s) ss (omega arith)
 
 -- a bundle of 1 to 16 tracks is framed without 24
-pub packed : (ss : List (List ℕ)) → 0 < length ss → length ss ≤ 16 → Lengthed ss → rule24 (bundleOf ss) ≡ Holds
+pub packed : (ss : List (List ℕ)) → 0 < length ss → length ss ≤ 16 → LengthsFit ss → rule24 (bundleOf ss) ≡ Holds
 unfolding rule24 records
 packed ss h g w = ap (rule24From 0) (shaped 16 [] ss g w) ∙ held 0 0 ss (omega arith)
 
@@ -103,6 +103,6 @@ given p (s ∷ ss) =
     ∙ given (p ++ recordOf s) ss)
 
 -- and its tracks are those that were bundled
-pub unpacked : (ss : List (List ℕ)) → length ss ≤ 16 → Lengthed ss → tracks (bundleOf ss) ≡ ss
+pub unpacked : (ss : List (List ℕ)) → length ss ≤ 16 → LengthsFit ss → tracks (bundleOf ss) ≡ ss
 unfolding tracks records
 unpacked ss g w = ap (tracksOf (bundleOf ss)) (shaped 16 [] ss g w) ∙ given [] ss

@@ -17,9 +17,9 @@ bundleOf [] = []
 bundleOf (s ∷ ss) = recordOf s ++ bundleOf ss
 
 -- each track's length fits in four bytes
-abbrev pub Lengthed : List (List ℕ) → Type 0
-Lengthed [] = Unit {0}
-Lengthed (s ∷ ss) = (length s < 2 ^ 32) × Lengthed ss
+abbrev pub LengthsFit : List (List ℕ) → Type 0
+LengthsFit [] = Unit {0}
+LengthsFit (s ∷ ss) = (length s < 2 ^ 32) × LengthsFit ss
 
 -- the bytes of a bundle whose tracks have those lengths: for each six and its own
 unfoldable pub bundleLength : List ℕ → ℕ

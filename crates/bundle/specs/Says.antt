@@ -3,9 +3,8 @@ use Prim.Native.Nat.{ℕ, _+_, _≤_}
 use mathlib.Core.Path.{_≡_}
 use mathlib.Core.List.{List}
 use lib.ListN.{length}
-use lib.Dec.{eqb}
-use Rattle.numbers.specs.Numbers.{when}
-use Rattle.rules.specs.Bundle.{rule24, tracks}
+use Rattle.rules.specs.Rules.{onRule}
+use Rattle.rules.specs.Bundle.{none, rule24From, rule24, tracks}
 use Rattle.rules.specs.declared.Mark.{Mark}
 use Rattle.rules.specs.declared.Mark.the-variants.{Nothing, Wrong, Track}
 use Rattle.rules.specs.declared.Rule.the-variants.{Holds, Breaks}
@@ -24,5 +23,5 @@ saysBundle (Good k) b = (rule24 b ≡ Holds) × (k ≡ length (tracks b)) × (1 
 saysBundle (Broken k p) b = (rule24 b ≡ Breaks 24 k p) × (k ≡ length (tracks b))
 
 -- where no bytes are left after k records
-abbrev pub endedOf : ℕ → Bundled
-endedOf k = when (eqb k 0) (Broken 0 0) (Good k)
+unfoldable pub endedOf : ℕ → Bundled
+endedOf k = onRule (rule24From k none) (λ _. Good k) (λ n t p. Broken t p)

@@ -122,7 +122,7 @@ fn some_of(number: u64, container: usize, n: usize) -> Rule
 }
 
 // The count of an entry in a container, by how many were seen and the place of the second.
-fn count_of(number: u64, container: usize, e: Entry, n: usize, p: usize) -> Rule
+fn count_entry(number: u64, container: usize, e: Entry, n: usize, p: usize) -> Rule
     ensures { λ r. ⌜ r ≡ counted number container e (seenBy n container p) ⌝ }
 {
     match e {
@@ -193,10 +193,10 @@ pub fn count_boxes(number: u64, m: &[u8], x: Spot, a: Entry, b: Entry, c: Entry)
     let v = t.b;
     let w = t.c;
     let later = rules::first_broken(
-        count_of(number, at, b, v.count, v.second),
-        count_of(number, at, c, w.count, w.second),
+        count_entry(number, at, b, v.count, v.second),
+        count_entry(number, at, c, w.count, w.second),
     );
-    let rule = rules::first_broken(count_of(number, at, a, u.count, u.second), later);
+    let rule = rules::first_broken(count_entry(number, at, a, u.count, u.second), later);
     Counted {
         rule,
         a: u,

@@ -30,7 +30,7 @@ use Rattle.runs.specs.Runs.{Due, SpansAll, PassedRuns}
 use Rattle.fragment.specs.Answers.{says, saysFragment}
 use Rattle.fragment.specs.declared.Fragment.{Fragment}
 use Rattle.fragment.specs.declared.Fragment.the-variants.{Good, Refused}
-use Rattle.fragment.specs.declared.bodies.Body.{Body}
+use Rattle.fragment.specs.declared.bodies.BodyValues.{BodyValues}
 use Rattle.fragment.specs.declared.bodies.InMoof.{InMoof}
 use Rattle.runs.specs.declared.Span.{Span}
 use Rattle.runs.specs.declared.Totals.{Totals}
@@ -70,7 +70,7 @@ module _ {m : List ℕ} {b : Spot} (st : Stands m b) (t : Bool) (k : ℕ) where
   next q l = then-is (placedUpTo (length m)) _ q last l
 
 -- rules 16 to 19 over what was read
-module _ (m : List ℕ) (d : Defaults) (x : InMoof) (k : Body) (t : Totals)
+module _ (m : List ℕ) (d : Defaults) (x : InMoof) (k : BodyValues) (t : Totals)
     (found : MoofIn m x) (told : BodyIn m d k) (passed : PassedRuns m (runsIn m) [] t) where
   clash-is : t .clash ≡ rule16runs m (runsIn m)
   unfolding rule16runs
@@ -123,7 +123,7 @@ module _ (m : List ℕ) (d : Defaults) (x : InMoof) (k : Body) (t : Totals)
           )
 
 -- rules 20 to 22 over what was read and the samples span
-module _ (m : List ℕ) (d : Defaults) (x : InMoof) (k : Body) (n : ℕ) (a : Span) (head : ℕ)
+module _ (m : List ℕ) (d : Defaults) (x : InMoof) (k : BodyValues) (n : ℕ) (a : Span) (head : ℕ)
     (found : MoofIn m x) (told : BodyIn m d k) (right : few n ≡ true)
     (s : SpansAll m (k .own) (length m + head) (runsIn m) [] n a) where
   some : 1 ≤ n

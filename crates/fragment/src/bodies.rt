@@ -35,7 +35,7 @@ pub struct InMoof {
 }
 
 // What the bodies before the runs say: the flags and the track ID of `tfhd`, the start, and the defaults with the fragment's own.
-pub struct Body {
+pub struct BodyValues {
     pub flags: u32,
     pub id: u32,
     pub start: u64,

@@ -14,8 +14,8 @@ use runs::layout::bytes_for;
 pub fn tfhd_size(flags: u32) -> usize
     ensures { λ r. ⌜ r ≡ tfhdSize flags ⌝ }
 {
-    let five = bytes_for(4, flags, 0x8) + bytes_for(4, flags, 0x10) + bytes_for(4, flags, 0x20);
-    16 + bytes_for(8, flags, 0x1) + bytes_for(4, flags, 0x2) + five
+    let defaults = bytes_for(4, flags, 0x8) + bytes_for(4, flags, 0x10) + bytes_for(4, flags, 0x20);
+    16 + bytes_for(8, flags, 0x1) + bytes_for(4, flags, 0x2) + defaults
 }
 
 // The field k bytes behind a box's header where a flag is set, else the default.
@@ -34,10 +34,10 @@ pub fn defaults(m: &[u8], b: Spot, flags: u32, d: Defaults) -> Defaults
 {
     let duration = 8 + bytes_for(8, flags, 0x1) + bytes_for(4, flags, 0x2);
     let size = duration + bytes_for(4, flags, 0x8);
-    let sync = size + bytes_for(4, flags, 0x10);
+    let last = size + bytes_for(4, flags, 0x10);
     Defaults {
         duration: own(m, b, duration, numbers::has(flags, 0x8), d.duration),
         size: own(m, b, size, numbers::has(flags, 0x10), d.size),
-        flags: own(m, b, sync, numbers::has(flags, 0x20), d.flags),
+        flags: own(m, b, last, numbers::has(flags, 0x20), d.flags),
     }
 }

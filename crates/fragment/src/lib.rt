@@ -6,10 +6,10 @@ ghost use Rattle.rules.specs.Limits.{byteLimit};
 ghost use Rattle.rules.specs.Counts.{child, counts};
 ghost use Rattle.rules.specs.Fragment.{inMoof, mfhdIn, trafIn, runsIn, rule14, rule15, rule15runs, startOf};
 ghost use Rattle.rules.specs.declared.Rule.the-variants.{Holds};
-ghost use Rattle.boxes.specs.Stands.{Stands, Whole, StandsAt};
+ghost use Rattle.boxes.specs.Stands.{Stands, WholeBox, StandsAt};
 ghost use Rattle.fragment.specs.Bodies.{MoofIn, BodyIn};
 ghost use Rattle.fragment.specs.Answers.{saysFragment};
-use bodies::Body;
+use bodies::BodyValues;
 use bodies::InMoof;
 use boxes::kinds::MFHD;
 use boxes::kinds::TFDT;
@@ -44,7 +44,7 @@ pub enum Fragment {
 fn settle(
     m: &[u8],
     x: InMoof,
-    k: Body,
+    k: BodyValues,
     head: u64,
     payload: u64,
     h: Header,
@@ -89,7 +89,7 @@ fn read(m: &[u8], x: InMoof, head: u64, payload: u64, h: Header, prev: Previous)
         let place = x.tfdt.at as u64;
         return Fragment::Refused { number: 15, place };
     };
-    let k = Body {
+    let k = BodyValues {
         flags,
         id,
         start,
@@ -143,7 +143,7 @@ pub fn check_fragment(
     h: Header,
     prev: Previous,
 ) -> Fragment
-    requires { ⌜ Whole (now m) moof × (length (now m) ≤ byteLimit) × (head ≤ 16) ⌝ }
+    requires { ⌜ WholeBox (now m) moof × (length (now m) ≤ byteLimit) × (head ≤ 16) ⌝ }
     ensures { λ r. ⌜ saysFragment r (now (m .entry)) h head payload prev ⌝ }
 {
     let whole = Spot {
@@ -181,7 +181,7 @@ fn first_child(m: &[u8], x: Spot, w: u32) -> Spot
 
 // The start of the fragment whose `moof` has the bytes m, with the length of its header: its `tfdt`, whatever that holds.
 pub fn start_in(m: &[u8], moof: usize) -> u64
-    requires { ⌜ Whole (now m) moof × (length (now m) ≤ byteLimit) ⌝ }
+    requires { ⌜ WholeBox (now m) moof × (length (now m) ≤ byteLimit) ⌝ }
     ensures { λ r. ⌜ r ≡ startOf (now (m .entry)) ⌝ }
 {
     let whole = Spot {

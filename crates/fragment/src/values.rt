@@ -13,7 +13,7 @@ ghost use Rattle.runs.specs.Runs.{PassedRuns, SpansAll};
 ghost use Rattle.fragment.specs.Answers.{saysLasting, says};
 use crate::Fragment;
 use crate::Interval;
-use crate::bodies::Body;
+use crate::bodies::BodyValues;
 use crate::bodies::InMoof;
 use rules::Header;
 use rules::Previous;
@@ -64,7 +64,7 @@ pub fn follows(prev: Previous, start: u64) -> bool
 }
 
 // Rule 20: the end, by a start and a duration.
-pub fn end_at(start: u64, ticks: u64) -> Lasting
+pub fn last_tick(start: u64, ticks: u64) -> Lasting
     requires { ⌜ ticks ≤ 4294967295 * sampleLimit ⌝ }
     ensures { λ r. ⌜ saysLasting r start ticks ⌝ }
 {
@@ -78,7 +78,7 @@ pub fn end_at(start: u64, ticks: u64) -> Lasting
 }
 
 // Whether 16 of `tfhd`, 17 and 19 hold: else no sample need be summed.
-pub fn worth_summing(k: Body, id: u32, prev: Previous) -> bool
+pub fn worth_summing(k: BodyValues, id: u32, prev: Previous) -> bool
     ensures { λ r. ⌜ r ≡ (flagged (k .flags) && eqb (k .id) id && follows prev (k .start)) ⌝ }
 {
     if !flagged(k.flags) {
@@ -91,7 +91,14 @@ pub fn worth_summing(k: Body, id: u32, prev: Previous) -> bool
 }
 
 // Rules 16 to 19, by what the bodies say and the runs come to.
-pub fn rules_before_sums(m: &[u8], x: InMoof, k: Body, t: Totals, h: Header, prev: Previous) -> Rule
+pub fn rules_before_sums(
+    m: &[u8],
+    x: InMoof,
+    k: BodyValues,
+    t: Totals,
+    h: Header,
+    prev: Previous,
+) -> Rule
     requires { ⌜ MoofIn (now m) x × BodyIn (now m) (h .defaults) k × PassedRuns (now m) (runsIn (now m)) [] t ⌝ }
     ensures { λ r. ⌜ r ≡ (rule16 (now (m .entry))
         then rule17 (now (m .entry)) (h .id)
@@ -111,7 +118,7 @@ pub fn rules_before_sums(m: &[u8], x: InMoof, k: Body, t: Totals, h: Header, pre
 pub fn rules_of_sums(
     m: &[u8],
     x: InMoof,
-    k: Body,
+    k: BodyValues,
     t: Totals,
     head: u64,
     payload: u64,
@@ -126,7 +133,7 @@ pub fn rules_of_sums(
     let place = x.run.at as u64;
     let start = k.start;
     let a = t.span;
-    let last = end_at(start, a.ticks);
+    let last = last_tick(start, a.ticks);
     let Lasting::Until(end) = last else {
         return Fragment::Refused { number: 20, place };
     };

@@ -17,8 +17,8 @@ use Rattle.framing.specs.declared.Wrote.{Wrote}
 use Rattle.framing.specs.declared.Wrote.the-variants as wrote
 
 -- the places of a slice that starts at a base are below 2^63, so that no sum of them wraps
-abbrev pub Placed : ℕ → List ℕ → Type 0
-Placed base s = base + length s < 9223372036854775808
+abbrev pub InReach : ℕ → List ℕ → Type 0
+InReach base s = base + length s < 9223372036854775808
 
 -- the step where no box is framed: refusals 2, 3 and 4
 abbrev pub brokenAt : Look → ℕ → Step

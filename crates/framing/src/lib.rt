@@ -9,7 +9,7 @@ ghost use Rattle.rules.specs.Framing.{framing, framed, rows};
 ghost use Rattle.rules.specs.Jobs.{Permits};
 ghost use Rattle.rules.specs.Track.{indexOutcome};
 ghost use Rattle.rules.specs.declared.Path.the-variants.{Top};
-ghost use Rattle.framing.specs.Steps.{Placed, Read, brokenAt, passedTo, Writes};
+ghost use Rattle.framing.specs.Steps.{InReach, Read, brokenAt, passedTo, Writes};
 use rules::Framing;
 use rules::Inside;
 use rules::Look;
@@ -55,7 +55,7 @@ fn broken_step(l: Look, place: usize) -> Step
 }
 
 // The step past a container, by how its run is framed.
-fn passed(inner: Framing, head: usize, size: usize, kind: u32) -> Step
+fn passed_to(inner: Framing, head: usize, size: usize, kind: u32) -> Step
     ensures { λ r. ⌜ r ≡ passedTo inner head size kind ⌝ }
 {
     match inner {
@@ -71,7 +71,7 @@ fn passed(inner: Framing, head: usize, size: usize, kind: u32) -> Step
 
 // Reads the box at a place of a run whose slice starts at a base, with n boxes before it, and what is inside it.
 fn read_box(s: &[u8], at: usize, path: Path, base: usize, n: usize) -> Step
-    requires { ⌜ Placed base (now s) ⌝ }
+    requires { ⌜ InReach base (now s) ⌝ }
     ensures { λ r. ⌜ Read r (now (s .entry)) at path base n ⌝ }
 {
     if s.len() <= at {
@@ -96,12 +96,12 @@ fn read_box(s: &[u8], at: usize, path: Path, base: usize, n: usize) -> Step
     };
     let from = at + head;
     let framed = read_run(&s[from..next], inner, place + head, n + 1);
-    passed(framed, head, size, kind)
+    passed_to(framed, head, size, kind)
 }
 
 // Reads a run of boxes, from the start of a slice that starts at a base to its end, with n boxes before it.
 pub fn read_run(s: &[u8], path: Path, base: usize, n: usize) -> Framing
-    requires { ⌜ Placed base (now s) ⌝ }
+    requires { ⌜ InReach base (now s) ⌝ }
     ensures { λ r. ⌜ r ≡ framing (forest path (now (s .entry)) 0) base n ⌝ }
 {
     let mut at = 0;
@@ -124,7 +124,7 @@ pub fn read_run(s: &[u8], path: Path, base: usize, n: usize) -> Framing
 
 // Reads the box at a place of the top level, with n boxes before it, and what is inside it.
 pub fn top_box(s: &[u8], at: usize, n: usize) -> Step
-    requires { ⌜ Placed 0 (now s) ⌝ }
+    requires { ⌜ InReach 0 (now s) ⌝ }
     ensures { λ r. ⌜ Read r (now (s .entry)) at Top 0 n ⌝ }
 {
     if s.len() <= at {
@@ -152,7 +152,7 @@ pub fn top_box(s: &[u8], at: usize, n: usize) -> Step
     };
     let from = at + head;
     let framed = read_run(&s[from..next], inner, from, boxes);
-    passed(framed, head, size, kind)
+    passed_to(framed, head, size, kind)
 }
 
 // How a whole slice is framed: rules 2 to 5.
@@ -189,7 +189,7 @@ fn write_box(
     t: &mut [u64],
     row: usize,
 ) -> Wrote
-    requires { ⌜ Placed base (now s) ⌝ }
+    requires { ⌜ InReach base (now s) ⌝ }
     requires { ⌜ depth ≤ base ⌝ }
     requires { ⌜ row + length (rows (forest path (now s) at) base depth) ≤ length (now t) ⌝ }
     ensures { λ r. ⌜ Writes r (now (s .entry)) at path base depth row (now (t .entry)) (now (t .exit)) ⌝ }
@@ -210,7 +210,7 @@ fn write_box(
 
 // Writes the index of a run of boxes from a place of the table; answers the place after it.
 fn write_run(s: &[u8], path: Path, base: usize, depth: u64, t: &mut [u64], row: usize) -> usize
-    requires { ⌜ Placed base (now s) ⌝ }
+    requires { ⌜ InReach base (now s) ⌝ }
     requires { ⌜ depth ≤ base ⌝ }
     requires { ⌜ row + length (rows (forest path (now s) 0) base depth) ≤ length (now t) ⌝ }
     ensures { λ r. ⌜ r ≡ row + length (rows (forest path (now (s .entry)) 0) base depth) ⌝ }

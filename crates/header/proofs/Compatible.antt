@@ -7,33 +7,27 @@ use native.Mathlib.Decide.{le-ind}
 use native.Mathlib.Numerals.{add-one}
 use native.Mathlib.Omega.{arith}
 use lib.ListN.{length}
-use lib.Dec.{eqb}
 use borrow.Author.Tests.{le-leb, lt-leb, eq-eqb, ne-eqb}
 use Rattle.numbers.specs.Numbers.{be4}
-use Rattle.rules.specs.Kinds.{cmfc, cmf2}
 use Rattle.rules.specs.Fields.{shortSize, field, hasForm}
-use Rattle.rules.specs.Header.{branded, brands, ftypIn}
+use Rattle.rules.specs.Header.{isBrand, branded, brands, ftypIn}
 use Rattle.rules.specs.declared.Ftyp.the-variants.{Branded, Wrong}
-use Rattle.boxes.specs.Stands.{Whole}
+use Rattle.boxes.specs.Stands.{WholeBox}
 
--- whether a number is one of the two brands
-abbrev pub isBrand : ℕ → Bool
-isBrand b = eqb b cmfc || eqb b cmf2
+-- one more test
+or-false : (a b : Bool) → a ≡ false → b ≡ false → (a || b) ≡ false
+or-false false b p q = q
+or-false true b p q = cc
 
--- one more test after two
-or-false : (a b d : Bool) → a ≡ false → (b || d) ≡ false → (a || b || d) ≡ false
-or-false false b d p q = q
-or-false true b d p q = cc
+or-right : (a b : Bool) → b ≡ true → (a || b) ≡ true
+or-right true b q = refl
+or-right false b q = q
 
-or-right : (a b d : Bool) → (b || d) ≡ true → (a || b || d) ≡ true
-or-right true b d q = refl
-or-right false b d q = q
+or-left : (a b : Bool) → a ≡ true → (a || b) ≡ true
+or-left true b q = refl
+or-left false b q = cc
 
-or-left : (a b d : Bool) → a ≡ true → (a || b || d) ≡ true
-or-left true b d q = refl
-or-left false b d q = cc
-
-module _ (f : List ℕ) (h : ℕ) (w : Whole f h) where
+module _ (f : List ℕ) (h : ℕ) (w : WholeBox f h) where
   -- one more brand, at its place
   same : (i : ℕ) {x : ℕ} → x ≡ be4 f (h + 8 + 4 * i) → field f 0 (8 + 4 * i) ≡ x
   unfolding field
@@ -45,15 +39,15 @@ module _ (f : List ℕ) (h : ℕ) (w : Whole f h) where
 
   pub none-more : (i : ℕ) {x : ℕ} {b : Bool} → x ≡ be4 f (h + 8 + 4 * i) → b ≡ isBrand x → b ≡ false → branded f i ≡ false → branded f (i + 1) ≡ false
   unfolding branded
-  none-more i e t n p = rw (add-one, same i e) (or-false _ _ _ p (sym t ∙ n))
+  none-more i e t n p = rw (add-one, same i e) (or-false _ _ p (sym t ∙ n))
 
   more : (i n : ℕ) → branded f i ≡ true → i ≤ n → branded f n ≡ true
   unfolding branded
-  more i n e = le-ind (λ (k : ℕ). branded f k ≡ true) e (λ k l b. or-left (branded f k) _ _ b) n
+  more i n e = le-ind (λ (k : ℕ). branded f k ≡ true) e (λ k l b. or-left (branded f k) _ b) n
 
   one-more : (i : ℕ) {x : ℕ} {b : Bool} → x ≡ be4 f (h + 8 + 4 * i) → b ≡ isBrand x → b ≡ true → branded f (suc i) ≡ true
   unfolding branded
-  one-more i e t y = rw (same i e) (or-right (branded f i) _ _ (sym t ∙ y))
+  one-more i e t y = rw (same i e) (or-right (branded f i) _ (sym t ∙ y))
 
   -- the size with the short header, by the bytes behind the header
   short : shortSize f 0 ≡ length f - h + 8

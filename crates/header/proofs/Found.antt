@@ -10,7 +10,7 @@ use Rattle.rules.specs.declared.Entry.{Entry}
 use Rattle.rules.specs.declared.Rule.{Rule}
 use Rattle.rules.specs.declared.Rule.the-variants.{Holds, Breaks}
 use Rattle.rules.specs.declared.Seen.{Seen}
-use Rattle.boxes.specs.Stands.{Whole, StandsAt}
+use Rattle.boxes.specs.Stands.{WholeBox, StandsAt}
 use Rattle.rules.specs.declared.Spot.{Spot}
 use Rattle.counts.specs.Sights.{seenOf, Sighted, Counts}
 use Rattle.counts.specs.declared.Sight.{Sight}
@@ -20,7 +20,7 @@ use Rattle.rules.proofs.Untracked.{then-is}
 use Rattle.header.specs.Places.{Judges}
 
 -- `moov` stands at its own start
-pub at-start : {m : List ℕ} {h : ℕ} (w : Whole m h) → StandsAt m 0 (record { at = 0; head = h; size = length m })
+pub at-start : {m : List ℕ} {h : ℕ} (w : WholeBox m h) → StandsAt m 0 (record { at = 0; head = h; size = length m })
 at-start w = record { stands = w; place = refl }
 
 -- in the container that stands at a place

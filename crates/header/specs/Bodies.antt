@@ -2,7 +2,7 @@
 use Prim.Native.Nat.{ℕ}
 use mathlib.Core.Path.{_≡_}
 use mathlib.Core.List.{List}
-use Rattle.rules.specs.Fields.{Form, body}
+use Rattle.rules.specs.Fields.{Form, wrongBody, body}
 use Rattle.rules.specs.Header.{mvhdForm, tkhdForm, mdhdForm, hdlrForm, tableForm, stszForm, trexForm, rule8}
 use Rattle.rules.specs.Header.{idOf, timescaleOf, handlerOf, trexId, entryCount, sampleCount, trexDefaults}
 use Rattle.rules.specs.declared.Rule.the-variants.{Holds, Breaks}
@@ -18,17 +18,17 @@ use Rattle.header.specs.declared.bodies.Bodies.{Bodies}
 -- `mvhd` has its form, or it breaks rule 8
 abbrev pub saysMvhd : Mvhd → List ℕ → ℕ → Type 0
 saysMvhd Mvhd.Plain m at = body 8 mvhdForm m at ≡ Holds
-saysMvhd Mvhd.Wrong m at = body 8 mvhdForm m at ≡ Breaks 8 0 at
+saysMvhd Mvhd.Wrong m at = body 8 mvhdForm m at ≡ wrongBody 8 mvhdForm m at
 
 -- a body has its form and tells a number, or it breaks rule 8
 abbrev pub saysBody : Reading → Form → ℕ → List ℕ → ℕ → Type 0
 saysBody (Reading.Tells x) w number m at = (body 8 w m at ≡ Holds) × (x ≡ number)
-saysBody Reading.Wrong w number m at = body 8 w m at ≡ Breaks 8 0 at
+saysBody Reading.Wrong w number m at = body 8 w m at ≡ wrongBody 8 w m at
 
 -- `trex` has its form and tells its track ID and its defaults, or it breaks rule 8
 abbrev pub saysTrex : Trex → List ℕ → ℕ → Type 0
 saysTrex (Trex.Of i d) m at = (body 8 trexForm m at ≡ Holds) × (i ≡ trexId m at) × (d ≡ trexDefaults m at)
-saysTrex Trex.Wrong m at = body 8 trexForm m at ≡ Breaks 8 0 at
+saysTrex Trex.Wrong m at = body 8 trexForm m at ≡ wrongBody 8 trexForm m at
 
 -- what the bodies up to `stsd` say where none is wrong
 pub record HeadsIn (m : List ℕ) (s : Located) (h : Heads) : Type 0 where

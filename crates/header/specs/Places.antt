@@ -12,7 +12,6 @@ use Rattle.rules.specs.declared.Entry.the-variants.{AtMostOne}
 use Rattle.rules.specs.declared.Rule.{Rule}
 use Rattle.rules.specs.declared.Places.{Places}
 use Rattle.boxes.specs.Stands.{Stands, StandsAt}
-use Rattle.rules.specs.declared.Spot.{Spot}
 use Rattle.header.specs.declared.containers.InTrak.{InTrak}
 use Rattle.header.specs.declared.containers.InMinf.{InMinf}
 use Rattle.header.specs.declared.containers.Located.{Located}

@@ -1,6 +1,6 @@
 // Rule 7, container by container: the counts of its boxes, and where the first of each stands in `moov`.
 ghost use Rattle.rules.specs.Header.{trakIn, minfIn};
-ghost use Rattle.boxes.specs.Stands.{Whole, StandsAt};
+ghost use Rattle.boxes.specs.Stands.{WholeBox, StandsAt};
 ghost use Rattle.header.specs.Places.{TrakIn, MinfIn, LocatedIn};
 use boxes::kinds;
 use counts::count_boxes;
@@ -125,7 +125,7 @@ fn in_minf(m: &[u8], x: Spot) -> InMinf
 
 // Rule 7: `moov` with one `mvhd`, `trak` and `mvex`, then what is in `trak`, then `mvex` with one `trex`.
 pub fn locate_boxes(m: &[u8], head: usize) -> Located
-    requires { ⌜ Whole (now m) head ⌝ }
+    requires { ⌜ WholeBox (now m) head ⌝ }
     ensures { λ r. ⌜ LocatedIn (now (m .entry)) r ⌝ }
 {
     let none = Entry::Nothing;

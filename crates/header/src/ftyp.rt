@@ -1,16 +1,13 @@
 // What `ftyp` tells: rule 8 of its body, and rule 9's compatible brands.
 ghost use mathlib.Core.Path.{_≡_};
-ghost use mathlib.Core.Bool.{_||_};
-ghost use lib.Dec.{eqb};
-ghost use Rattle.rules.specs.Kinds.{cmfc, cmf2};
-ghost use Rattle.rules.specs.Header.{ftypIn};
-ghost use Rattle.boxes.specs.Stands.{Whole};
+ghost use Rattle.rules.specs.Header.{isBrand, ftypIn};
+ghost use Rattle.boxes.specs.Stands.{WholeBox};
 use crate::letters::spells;
 use rules::Ftyp;
 
 // Whether a brand is `cmfc` or `cmf2`.
 fn is_brand(brand: u32) -> bool
-    ensures { λ r. ⌜ r ≡ eqb brand cmfc || eqb brand cmf2 ⌝ }
+    ensures { λ r. ⌜ r ≡ isBrand brand ⌝ }
 {
     if spells(brand, b"cmfc") {
         return true;
@@ -20,7 +17,7 @@ fn is_brand(brand: u32) -> bool
 
 // What the bytes of `ftyp` tell, whose header has some bytes; its brands follow the major brand and the minor version.
 pub fn read_ftyp(f: &[u8], head: usize) -> Ftyp
-    requires { ⌜ Whole (now f) head ⌝ }
+    requires { ⌜ WholeBox (now f) head ⌝ }
     ensures { λ r. ⌜ r ≡ ftypIn (now (f .entry)) ⌝ }
 {
     let payload = f.len() - head;

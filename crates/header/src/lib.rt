@@ -4,7 +4,7 @@ ghost use lib.ListN.{length};
 ghost use Rattle.rules.specs.Header.{rule7};
 ghost use Rattle.rules.specs.declared.Ftyp.the-variants.{Branded};
 ghost use Rattle.rules.specs.declared.Rule.the-variants.{Holds};
-ghost use Rattle.boxes.specs.Stands.{Whole};
+ghost use Rattle.boxes.specs.Stands.{WholeBox};
 ghost use Rattle.header.specs.Places.{LocatedIn};
 ghost use Rattle.header.specs.Answers.{HeadsAs, headsUpTo};
 use bodies::Bodies;
@@ -75,7 +75,7 @@ fn check_bodies(branded: bool, m: &[u8], s: Located) -> HeaderAnswer
 
 // Rules 7 to 13 over what `ftyp` tells and the bytes of `moov`, whose header has some bytes.
 pub fn check_header(f: Ftyp, m: &[u8], head: usize) -> HeaderAnswer
-    requires { ⌜ Whole (now m) head ⌝ }
+    requires { ⌜ WholeBox (now m) head ⌝ }
     ensures { λ r. ⌜ HeadsAs r f (now (m .entry)) ⌝ }
     ensures { λ r. ⌜ headsUpTo r (length (now (m .entry))) ⌝ }
 {

@@ -4,13 +4,13 @@ use mathlib.Core.Path.{_≡_, sym, subst}
 use mathlib.Core.List.{List}
 use lib.ListN.{length}
 use lib.Seq.{length-take-le}
-use Rattle.intake.specs.Held.{Within}
+use Rattle.intake.specs.Held.{HeldWithin}
 use Rattle.intake.specs.declared.Input.{Input}
 use Rattle.intake.specs.declared.Input.the-variants.{Held}
 
-pub held : (n : ℕ) (xs : List ℕ) → n ≤ length xs → Within (Held n) xs
+pub held : (n : ℕ) (xs : List ℕ) → n ≤ length xs → HeldWithin (Held n) xs
 held n xs h = (h, sym (length-take-le n xs h))
 
 -- bytes that are held are the front of the buffer
-pub held-front : (xs : List ℕ) {r : Input} {n : ℕ} → r ≡ Held n → Within r xs → Within (Held n) xs
-held-front xs e w = subst (λ (i : Input). Within i xs) e w
+pub held-front : (xs : List ℕ) {r : Input} {n : ℕ} → r ≡ Held n → HeldWithin r xs → HeldWithin (Held n) xs
+held-front xs e w = subst (λ (i : Input). HeldWithin i xs) e w

@@ -7,6 +7,6 @@ use Rattle.intake.specs.declared.Input.{Input}
 use Rattle.intake.specs.declared.Input.the-variants.{Held, Unread}
 
 -- the bytes held lie within the buffer
-abbrev pub Within : Input → List ℕ → Type 0
-Within (Held n) xs = (n ≤ length xs) × (n ≡ length (take n xs))
-Within Unread xs = Unit {0}
+abbrev pub HeldWithin : Input → List ℕ → Type 0
+HeldWithin (Held n) xs = (n ≤ length xs) × (n ≡ length (take n xs))
+HeldWithin Unread xs = Unit {0}

@@ -8,7 +8,7 @@ ghost use mathlib.Core.Path.{_≡_};
 ghost use Prim.Native.Nat.{_<_};
 ghost use lib.ListN.{length};
 ghost use Rattle.printed.specs.Printed.{inputLimit, printed};
-ghost use Rattle.intake.specs.Held.{Within};
+ghost use Rattle.intake.specs.Held.{HeldWithin};
 
 // What was read of the input: so many bytes, now at the start of the buffer, or it can't be read.
 enum Input {
@@ -19,7 +19,7 @@ enum Input {
 // Reads until the buffer is full or the input ends, however few bytes a read brings. There is room to notice more than a set may have.
 fn read_all(buf: &mut [u8]) -> Input
     requires { ⌜ inputLimit < length (now buf) ⌝ }
-    ensures { λ r. ⌜ Within r (now (buf .exit)) ⌝ }
+    ensures { λ r. ⌜ HeldWithin r (now (buf .exit)) ⌝ }
 {
     let mut done = 0;
     while done < buf.len() {

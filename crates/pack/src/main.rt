@@ -9,6 +9,7 @@ use libc::STDOUT_FILENO;
 ghost use Prim.Native.Nat.{_+_, _≤_, _<_};
 ghost use mathlib.Core.Path.{_≡_};
 ghost use lib.ListN.{length, take, getD};
+ghost use Rattle.rules.specs.Limits.{byteLimit};
 ghost use Rattle.bundle.specs.Front.{frontOf, bundleLength};
 ghost use Rattle.pack.specs.Sizes.{WithinLimit, Readied, AllFit, WritesTo, Packed};
 
@@ -36,7 +37,7 @@ enum Place {
 
 // Counts the bytes of a file that begins at a place of the bundle.
 fn count_bytes(fd: i32, from: u64, buf: &mut [u8]) -> Size
-    requires { ⌜ from ≤ 1073741830 ⌝ }
+    requires { ⌜ from ≤ byteLimit + 6 ⌝ }
     ensures { λ r. ⌜ WithinLimit r from ⌝ }
 {
     let mut end = from;
@@ -56,7 +57,7 @@ fn count_bytes(fd: i32, from: u64, buf: &mut [u8]) -> Size
 
 // Counts the bytes of an open file of that name and goes back to its start; says why where it can't.
 fn ready(fd: i32, path: &[u8], from: u64, buf: &mut [u8]) -> File
-    requires { ⌜ from ≤ 1073741830 ⌝ }
+    requires { ⌜ from ≤ byteLimit + 6 ⌝ }
     ensures { λ r. ⌜ Readied r from ⌝ }
 {
     let size = count_bytes(fd, from, buf);
@@ -85,7 +86,7 @@ fn ready(fd: i32, path: &[u8], from: u64, buf: &mut [u8]) -> File
 
 // Makes the file that argument i names ready for a place of the bundle; says why where it can't.
 fn prepare(i: usize, from: u64, buf: &mut [u8]) -> File
-    requires { ⌜ from ≤ 1073741830 ⌝ }
+    requires { ⌜ from ≤ byteLimit + 6 ⌝ }
     ensures { λ r. ⌜ Readied r from ⌝ }
 {
     let mut path = io::buffer();
@@ -163,7 +164,7 @@ fn pass_some(fd: i32, most: u64, buf: &mut [u8]) -> u64
 
 // Copies so many bytes of a file to standard output, from a place of the bundle on; answers where that ends.
 fn copy(fd: i32, at: u64, size: u32, buf: &mut [u8]) -> Place
-    requires { ⌜ at ≤ 1073741830 ⌝ }
+    requires { ⌜ at ≤ byteLimit + 6 ⌝ }
     ensures { λ r. ⌜ WritesTo r (at + size) ⌝ }
 {
     let end = at + size as u64;
@@ -188,7 +189,7 @@ fn head(sizes: &[u32], k: usize) -> [u8; 6]
 
 // Writes six bytes at a place of the bundle, which have to be those in front of file k; answers where they end.
 fn put_head(six: &[u8; 6], sizes: &[u32], k: usize, at: u64) -> Place
-    requires { ⌜ (now six ≡ frontOf (getD (now sizes) k 0)) × (at ≡ bundleLength (take k (now sizes))) × (at ≤ 1073741824) ⌝ }
+    requires { ⌜ (now six ≡ frontOf (getD (now sizes) k 0)) × (at ≡ bundleLength (take k (now sizes))) × (at ≤ byteLimit) ⌝ }
     ensures { λ r. ⌜ WritesTo r (at + 6) ⌝ }
 {
     if !io::write_all(STDOUT_FILENO, six) {
@@ -200,7 +201,7 @@ fn put_head(six: &[u8; 6], sizes: &[u32], k: usize, at: u64) -> Place
 
 // Writes the record of file k at a place of the bundle; answers where it ends.
 fn write_record(fd: i32, sizes: &[u32], k: usize, at: u64, buf: &mut [u8]) -> Place
-    requires { ⌜ (k < length (now sizes)) × (at ≡ bundleLength (take k (now sizes))) × (at ≤ 1073741824) ⌝ }
+    requires { ⌜ (k < length (now sizes)) × (at ≡ bundleLength (take k (now sizes))) × (at ≤ byteLimit) ⌝ }
     ensures { λ r. ⌜ WritesTo r (bundleLength (take (k + 1) (now (sizes .entry)))) ⌝ }
 {
     let six = head(sizes, k);
@@ -212,7 +213,7 @@ fn write_record(fd: i32, sizes: &[u32], k: usize, at: u64, buf: &mut [u8]) -> Pl
 
 // Writes the records of the first so many files, up to one that can't be written whole; answers where they end.
 fn write_records(files: usize, fds: &[i32], sizes: &[u32], buf: &mut [u8]) -> Place
-    requires { ⌜ (files ≤ length (now fds)) × (files ≤ length (now sizes)) × (bundleLength (take files (now sizes)) ≤ 1073741824) ⌝ }
+    requires { ⌜ (files ≤ length (now fds)) × (files ≤ length (now sizes)) × (bundleLength (take files (now sizes)) ≤ byteLimit) ⌝ }
     ensures { λ r. ⌜ WritesTo r (bundleLength (take files (now (sizes .entry)))) ⌝ }
 {
     let mut at = 0;

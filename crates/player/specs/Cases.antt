@@ -1,9 +1,9 @@
--- The player computed on small tracks: each reason to be stuck, and beside it the same track without that reason.
+-- The player computed on small tracks: each reason to be stuck, and beside it the same track without that reason; and verdicts on whole tracks.
 use mathlib.Core.Path.{_≡_, refl}
 use mathlib.Core.List.{List, [], _∷_, _++_}
 use Prim.Native.Nat.{ℕ}
 use Rattle.rules.specs.Kinds.{mdat, tfdt, trun, vide, soun, vmhd, letters}
-use Rattle.rules.specs.Bytes.{in4, zeros, boxed, headerWith, header, run, moofOf, fragment, trackT, single, shifted}
+use Rattle.rules.specs.Bytes.{in4, zeros, boxed, headerWith, header, run, moofOf, moofOf8, fragment, trackT, single, shifted}
 use Rattle.rules.specs.Computed.{computed}
 use Rattle.rules.specs.Track.{ruling}
 use Rattle.rules.specs.Bundle.{tracks}
@@ -164,6 +164,18 @@ set-accepted = refl
 pub non-sync-refused : ruling (firstFlagged 0x1010000) ≡ Breaks 21 0 556
 unfolding computed firstFlagged
 non-sync-refused = refl
+
+-- a track of one fragment that ends at tick 2^63 - 1 is accepted, one that starts a tick later is refused under 20
+unfoldable pub endsLate : ℕ → List ℕ
+endsLate start = header ++ moofOf8 start (run 0 112 []) ++ boxed mdat (zeros 30)
+
+pub last-tick-accepted : ruling (endsLate 9223372036854595807) ≡ Holds
+unfolding computed endsLate
+last-tick-accepted = refl
+
+pub later-tick-refused : ruling (endsLate 9223372036854595808) ≡ Breaks 20 0 560
+unfolding computed endsLate
+later-tick-refused = refl
 
 -- what a caller sees of the bundle of T twice, over a table of four nines
 unfoldable pub twiceT : List ℕ

@@ -12,11 +12,14 @@ use Rattle.rules.specs.Bundle.{computedBundle}
 use Rattle.rules.specs.Set.{computedSet}
 use Rattle.rules.specs.Course.{computedCourse}
 use Rattle.rules.specs.Player.{computedPlayer}
+use Rattle.rules.specs.Plans.{computedPlans}
+use Rattle.rules.specs.Refusals.{computedRefusals}
 use Rattle.rules.specs.Bytes.{computedBytes}
 use Rattle.numbers.specs.Numbers.{computedNumbers}
 
 -- a mark, and no statement
 unfoldable pub computed : Unit {0}
 unfolding computedRules computedBoxes computedFraming computedOrder computedCounts computedFields computedHeader computedFragment
-    computedTrack computedBundle computedSet computedCourse computedPlayer computedBytes computedNumbers
+    computedTrack computedBundle computedSet computedCourse computedPlayer computedPlans computedRefusals computedBytes
+    computedNumbers
 computed = tt

@@ -9,7 +9,7 @@ use Rattle.rules.specs.Rules.{_then_}
 use Rattle.rules.specs.Boxes.{Box, boxes, whole}
 use Rattle.rules.specs.Order.{ordered, step6, onStepped}
 use Rattle.rules.specs.Header.{headerRules, ftypIn, headerIn, placesIn}
-use Rattle.rules.specs.Track.{headerOf, fragments, fragmentCount, shapeAt, timingAt, endAt, lastEnd, ruling}
+use Rattle.rules.specs.Track.{headerOf, fragmentCount, shapeAt, timingAt, endAt, endOfTrack, ruling}
 use Rattle.rules.specs.Set.{mdhdAt, hdlrAt}
 use Rattle.rules.specs.declared.Course.{Course}
 use Rattle.rules.specs.declared.Course.the-variants.{On, Broken}
@@ -110,7 +110,7 @@ factsOf s =
       mdhd = mdhdAt s;
       hdlr = hdlrAt s;
       fragments = fragmentCount s;
-      end = lastEnd s (headerOf s) Unset (fragments s);
+      end = endOfTrack s;
     }
 
 -- every rule of a track but room, with what is known of it

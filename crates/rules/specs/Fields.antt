@@ -7,6 +7,7 @@ use Rattle.numbers.specs.Numbers.{byte, be3, be4, when}
 use Rattle.rules.specs.Rules.{must}
 use Rattle.rules.specs.Boxes.{headOf, sizeOf}
 use Rattle.rules.specs.declared.Rule.{Rule}
+use Rattle.rules.specs.declared.Rule.the-variants.{Breaks}
 
 -- the whole size that the box at a place has with the short header
 unfoldable pub shortSize : List ℕ → ℕ → ℕ
@@ -43,9 +44,17 @@ hasForm (plain a) s at = when (eqb (version s at) 0) (eqb (shortSize s at) a) fa
 hasForm (atLeast a) s at = leb a (shortSize s at)
 hasForm (fours a) s at = when (leb a (shortSize s at)) (eqb ((shortSize s at - a) % 4) 0) false
 
--- rule n of a box body: it has its form; place, the box
+-- where a body of another form is wrong: the box
+abbrev pub bodyPlace : Form → List ℕ → ℕ → ℕ
+bodyPlace w s at = at
+
+-- rule n of such a body
+abbrev pub wrongBody : ℕ → Form → List ℕ → ℕ → Rule
+wrongBody n w s at = Breaks n 0 (bodyPlace w s at)
+
+-- rule n of a box body: it has its form
 unfoldable pub body : ℕ → Form → List ℕ → ℕ → Rule
-body n w s at = must (hasForm w s at) n at
+body n w s at = must (hasForm w s at) n (bodyPlace w s at)
 
 -- the mark of this file: its definitions unfold wherever it does
 unfoldable pub computedFields : Unit {0}

@@ -254,10 +254,13 @@ offsetIs m r e = isPlace (signed (field m r 8)) e
 unfoldable pub placed : Bool → List ℕ → ℕ → ℕ → Bool
 placed first m r e = when (has (flagsOf m r) 0x1) (offsetIs m r e) (not first)
 
+abbrev pub rule22run : List ℕ → Bool → ℕ → ℕ → Rule
+rule22run m first e r = must (placed first m r e) 22 r
+
 -- 22, the runs, where the next byte is at the place e after the `moof` start; place: the first wrong run
 unfoldable pub rule22runs : List ℕ → Defaults → Bool → ℕ → List ℕ → Rule
 rule22runs m d first e [] = Holds
-rule22runs m d first e (r ∷ rs) = must (placed first m r e) 22 r then rule22runs m d false (e + runBytes m d r) rs
+rule22runs m d first e (r ∷ rs) = rule22run m first e r then rule22runs m d false (e + runBytes m d r) rs
 
 -- 22: the runs' bytes begin behind the `mdat` header and tile its payload; place of the last: `mdat`, where `moof` ends
 unfoldable pub rule22 : List ℕ → Defaults → ℕ → ℕ → Rule

@@ -105,18 +105,26 @@ placesIn m =
       trex = child m (mvexIn m) trex;
     }
 
--- whether one of the first n compatible brands is `cmfc` or `cmf2`; they follow the major brand and the minor version
+-- `cmfc` or `cmf2`
+abbrev pub isBrand : ℕ → Bool
+isBrand b = eqb b cmfc || eqb b cmf2
+
+-- whether one of the first n compatible brands is one of the two; they follow the major brand and the minor version
 unfoldable pub branded : List ℕ → ℕ → Bool
 branded f zero = false
-branded f (suc i) = branded f i || eqb (field f 0 (8 + 4 * i)) cmfc || eqb (field f 0 (8 + 4 * i)) cmf2
+branded f (suc i) = branded f i || isBrand (field f 0 (8 + 4 * i))
 
 -- how many compatible brands `ftyp` has
 unfoldable pub brands : List ℕ → ℕ
 brands f = (sizeOf f 0 - headOf f 0 - 8) / 4
 
--- what the bytes of `ftyp` tell: 16 + a multiple of 4, and its brands
+-- `ftyp` 16 + a multiple of 4
+abbrev pub ftypForm : Form
+ftypForm = fours 16
+
+-- what the bytes of `ftyp` tell: its form, and its brands
 unfoldable pub ftypIn : List ℕ → Ftyp
-ftypIn f = when (hasForm (fours 16) f 0) (Branded (branded f (brands f))) Wrong
+ftypIn f = when (hasForm ftypForm f 0) (Branded (branded f (brands f))) Wrong
 
 -- 8, `ftyp`
 unfoldable pub rule8ftyp : Ftyp → Rule

@@ -73,3 +73,8 @@ abbrev pub HasStuckHalf : Player → Type 0
 HasStuckHalf player =
     (ss : List (List ℕ)) (k p : ℕ) → Singly ss → OneKind ss → setRuling ss ≡ Breaks 27 k p
     → (one : List ℕ) × (other : List ℕ) × Comparable ss one other × OneStuck (player ss one) (player ss other)
+
+-- the mark of this file: its definitions unfold wherever it does
+unfoldable pub computedPlans : Unit {0}
+unfolding longest
+computedPlans = tt

@@ -78,3 +78,8 @@ track-list = refl
 
 pub bundle-list : bundleNumbers ≡ 24 ∷ (trackNumbers ++ (25 ∷ 26 ∷ 27 ∷ 28 ∷ []))
 bundle-list = refl
+
+-- the mark of this file: its definitions unfold wherever it does
+unfoldable pub computedRefusals : Unit {0}
+unfolding member among apart
+computedRefusals = tt

@@ -5,7 +5,7 @@ use lib.ListN.{length, drop}
 use lib.Dec.{eqb}
 use Rattle.rules.specs.Rules.{_then_, must, ofTrack, onRule}
 use Rattle.rules.specs.Header.{placesIn}
-use Rattle.rules.specs.Track.{rule1, ruling, moovAt, moovOf, headerOf, fragments, fragmentCount, timescale, boundaries, Outcome, roomFor, refused}
+use Rattle.rules.specs.Track.{rule1, ruling, moovAt, moovOf, headerOf, fragments, fragmentCount, timescale, boundaries, Outcome, roomOf, refused}
 use Rattle.rules.specs.Bundle.{rule24, tracks}
 use Rattle.rules.specs.declared.Rule.{Rule}
 use Rattle.rules.specs.declared.Rule.the-variants.{Holds}
@@ -75,9 +75,7 @@ bundleRuling b = rule1 (length b) then rule24 b then setRuling (tracks b)
 -- the set job: every rule, then room
 unfoldable pub setOutcome : List ℕ → List ℕ → Outcome
 setOutcome b t =
-    onRule (bundleRuling b)
-    (λ _. roomFor (fragmentCount (track0 (tracks b))) (timescale (track0 (tracks b))) (boundaries (track0 (tracks b))) t)
-    (λ n k p. refused n k p t)
+    onRule (bundleRuling b) (λ _. roomOf (track0 (tracks b)) t) (λ n k p. refused n k p t)
 
 -- the mark of this file: its definitions unfold wherever it does
 unfoldable pub computedSet : Unit {0}

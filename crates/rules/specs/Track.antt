@@ -111,6 +111,10 @@ ticks s h xs = map (startAt s) xs ++ endList (lastEnd s h Unset xs)
 unfoldable pub boundaries : List ℕ → List ℕ
 boundaries s = ticks s (headerOf s) (fragments s)
 
+-- the last end of a track
+abbrev pub endOfTrack : List ℕ → Previous
+endOfTrack s = lastEnd s (headerOf s) Unset (fragments s)
+
 -- what a job gives back: the verdict, and the lent table afterwards
 pub record Outcome : Type 0 where
   pub verdict : Verdict
@@ -133,6 +137,10 @@ accepted count scale numbers t =
 unfoldable pub roomFor : ℕ → ℕ → List ℕ → List ℕ → Outcome
 roomFor count scale numbers t = when (ltb (length t) (length numbers)) (refused 23 0 0 t) (accepted count scale numbers t)
 
+-- the outcome of a track whose rules hold: room, and the boundaries
+abbrev pub roomOf : List ℕ → List ℕ → Outcome
+roomOf s t = roomFor (fragmentCount s) (timescale s) (boundaries s) t
+
 -- the index of a slice
 unfoldable pub index : List ℕ → List ℕ
 index s = rows (forest Top s 0) 0 0
@@ -147,7 +155,7 @@ indexOutcome s t =
 -- the track job: every rule, then room
 unfoldable pub trackOutcome : List ℕ → List ℕ → Outcome
 trackOutcome s t =
-    onRule (ruling s) (λ _. roomFor (fragmentCount s) (timescale s) (boundaries s) t) (λ n k p. refused n k p t)
+    onRule (ruling s) (λ _. roomOf s t) (λ n k p. refused n k p t)
 
 -- the mark of this file: its definitions unfold wherever it does
 unfoldable pub computedTrack : Unit {0}

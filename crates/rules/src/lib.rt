@@ -48,7 +48,7 @@ pub enum Seen {
     Twice(usize, usize),
 }
 
-// What a container wants of its boxes: none, one of a type, at most one, one or more, or one in all of three types.
+// What a container wants of its boxes: nothing more, one of a type, at most one, one or more, or one in all of three types.
 pub enum Entry {
     Nothing,
     One(u32),

@@ -10,9 +10,9 @@ use Rattle.rules.specs.Kinds.{trun}
 use Rattle.rules.specs.Limits.{sampleLimit}
 use Rattle.rules.specs.Boxes.{boxes, placesOf}
 use Rattle.rules.specs.Rules.{_then_, must, placedUpTo}
-use Rattle.rules.specs.Fields.{body}
-use Rattle.rules.specs.Fragment.{runForm, placed, firstFlagsOf, runDuration, runBytes, samplesOf, durationsOf, bytesIn, firstFlags}
-use Rattle.rules.specs.Fragment.{rule15runs, rule16runs, rule22runs, isSync}
+use Rattle.rules.specs.Fields.{wrongBody, body}
+use Rattle.rules.specs.Fragment.{runForm, firstFlagsOf, runDuration, runBytes, samplesOf, durationsOf, bytesIn, firstFlags}
+use Rattle.rules.specs.Fragment.{rule15runs, rule16runs, rule22run, rule22runs, isSync}
 use Rattle.rules.specs.declared.Rule.{Rule}
 use Rattle.rules.specs.declared.Rule.the-variants.{Holds, Breaks}
 use Rattle.rules.specs.declared.Defaults.{Defaults}
@@ -42,13 +42,17 @@ SmallSums samples a = (a .ticks ≤ 4294967295 * samples) × (a .bytes ≤ 42949
 abbrev pub Low : Bool → Totals → Type 0
 Low want t = Due want (t .clash) (t .samples) → SmallSums (t .samples) (t .span)
 
+-- whether the first sample is sync, after so many samples and then the n of the run at a place: that run's first where it has one and none was before
+abbrev pub syncAfter : ℕ → ℕ → Bool → List ℕ → Defaults → ℕ → Bool
+syncAfter before n sync m d r = when (eqb before 0) (when (eqb n 0) sync (isSync (firstFlagsOf m d r))) sync
+
 -- b is what samples span, a, with the n of the run at a place, after so many samples, where the bytes of all begin at a place
 pub record AndSamples (m : List ℕ) (d : Defaults) (from before r n : ℕ) (a b : Span) : Type 0 where
   pub ticks : b .ticks ≡ a .ticks + runDuration m d r
   pub bytes : b .bytes ≡ a .bytes + runBytes m d r
   pub lead : b .lead ≡ false
-  pub sync : b .sync ≡ when (eqb before 0) (when (eqb n 0) (a .sync) (isSync (firstFlagsOf m d r))) (a .sync)
-  pub tiled : b .tiled ≡ (a .tiled then must (placed (a .lead) m r (from + a .bytes)) 22 r)
+  pub sync : b .sync ≡ syncAfter before n (a .sync) m d r
+  pub tiled : b .tiled ≡ (a .tiled then rule22run m (a .lead) (from + a .bytes) r)
   pub small : SmallSums (before + n) b
 
 -- what the samples of the runs passed span, so many, where some of all are left and the bytes of all begin at a place
@@ -79,7 +83,7 @@ Onward m want d from r t u = (all rest : List ℕ) → Walked m want d from all 
 -- one run more, or the place of one that has another form
 abbrev pub saysNext : Runs → List ℕ → Spot → Bool → Defaults → ℕ → Totals → Type 0
 saysNext (Of u) m r want d from t = Onward m want d from (r .at) t u × (u .samples ≤ t .samples + 4294967295)
-saysNext (Wrong p) m r want d from t = (body 15 (runForm m (r .at)) m (r .at) ≡ Breaks 15 0 (r .at)) × (p ≡ r .at)
+saysNext (Wrong p) m r want d from t = (body 15 (runForm m (r .at)) m (r .at) ≡ wrongBody 15 (runForm m (r .at)) m (r .at)) × (p ≡ r .at)
 
 -- what all runs come to, or the place of the first that has another form
 abbrev pub saysRuns : Runs → List ℕ → Bool → Defaults → ℕ → List ℕ → Type 0

@@ -2,9 +2,9 @@
 use Prim.Native.Nat.{ℕ, _+_, _*_}
 use mathlib.Core.Path.{_≡_}
 use mathlib.Core.List.{List}
-use Rattle.rules.specs.Fields.{flagsOf, body}
+use Rattle.rules.specs.Fields.{flagsOf, wrongBody, body}
 use Rattle.rules.specs.Fragment.{runForm, runHead, stride, countOf}
-use Rattle.rules.specs.declared.Rule.the-variants.{Holds, Breaks}
+use Rattle.rules.specs.declared.Rule.the-variants.{Holds}
 use Rattle.rules.specs.declared.Spot.{Spot}
 use Rattle.boxes.specs.Stands.{Stands}
 use Rattle.runs.specs.declared.trun.Trun.{Trun}
@@ -20,4 +20,4 @@ pub record FilledRun (m : List ℕ) (r : Spot) (f n : ℕ) : Type 0 where
 -- `trun`: version 0 or 1, sized by its flags and its samples
 abbrev pub saysTrun : Trun → List ℕ → Spot → Type 0
 saysTrun (Of f n) m r = (body 15 (runForm m (r .at)) m (r .at) ≡ Holds) × FilledRun m r f n
-saysTrun Wrong m r = body 15 (runForm m (r .at)) m (r .at) ≡ Breaks 15 0 (r .at)
+saysTrun Wrong m r = body 15 (runForm m (r .at)) m (r .at) ≡ wrongBody 15 (runForm m (r .at)) m (r .at)

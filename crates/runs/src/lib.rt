@@ -3,14 +3,12 @@
 ghost use mathlib.Core.Path.{_≡_};
 ghost use Prim.Native.Nat.{_+_, _*_, _≤_};
 ghost use lib.ListN.{length, take};
-ghost use lib.Dec.{eqb};
-ghost use Rattle.numbers.specs.Numbers.{when};
 ghost use Rattle.rules.specs.Limits.{byteLimit, sampleLimit};
 ghost use Rattle.rules.specs.Fields.{flagsOf};
 ghost use Rattle.rules.specs.Fragment.{runHead, stride, notBoth, firstFlagsOf, isSync, placed};
 ghost use Rattle.boxes.specs.Stands.{Stands};
 ghost use Rattle.runs.specs.Trun.{FilledRun};
-ghost use Rattle.runs.specs.Runs.{runsAt, saysDue, SmallSums, Low, AndSamples, saysNext, saysRuns};
+ghost use Rattle.runs.specs.Runs.{runsAt, saysDue, SmallSums, Low, syncAfter, AndSamples, saysNext, saysRuns};
 use boxes::kinds::TRUN;
 use rules::Defaults;
 use rules::Look;
@@ -73,7 +71,7 @@ fn due(want: bool, clash: Rule, samples: u64) -> bool
 }
 
 // The flags of the first sample of a run with these flags, which has one.
-fn first_flags(m: &[u8], r: Spot, flags: u32, d: Defaults) -> u32
+fn first_flags_of(m: &[u8], r: Spot, flags: u32, d: Defaults) -> u32
     requires { ⌜ Stands (now m) r × (flags ≡ flagsOf (now m) (r .at)) × (r .head + runHead flags + stride flags ≤ r .size) ⌝ }
     ensures { λ a. ⌜ a ≡ firstFlagsOf (now (m .entry)) d (r .at) ⌝ }
 {
@@ -100,7 +98,7 @@ fn is_sync(flags: u32) -> bool
 // Whether the first sample is a sync sample, after n samples and one run more: that run's, where there was none before and is one in it.
 fn sync_after(n: u64, sync: bool, m: &[u8], r: Spot, flags: u32, count: u32, d: Defaults) -> bool
     requires { ⌜ FilledRun (now m) r flags count ⌝ }
-    ensures { λ a. ⌜ a ≡ when (eqb n 0) (when (eqb count 0) sync (isSync (firstFlagsOf (now (m .entry)) d (r .at)))) sync ⌝ }
+    ensures { λ a. ⌜ a ≡ syncAfter n count sync (now (m .entry)) d (r .at) ⌝ }
 {
     if n != 0 {
         return sync;
@@ -108,7 +106,7 @@ fn sync_after(n: u64, sync: bool, m: &[u8], r: Spot, flags: u32, count: u32, d: 
     if count == 0 {
         return sync;
     }
-    is_sync(first_flags(m, r, flags, d))
+    is_sync(first_flags_of(m, r, flags, d))
 }
 
 // Rule 22, a run with these flags: the first carries an offset, equal to the place e; a later one none, or one equal to it.

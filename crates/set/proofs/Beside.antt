@@ -8,7 +8,7 @@ use lib.ListN.{length}
 use lib.Dec.{eqb}
 use borrow.Author.Tests.{eq-eqb, ne-eqb, eqb-true}
 use Rattle.rules.specs.Rules.{_then_, must}
-use Rattle.rules.specs.Track.{headerOf, fragments, fragmentsFrom, fragmentCount, timescale, lastEnd, endList}
+use Rattle.rules.specs.Track.{headerOf, fragments, fragmentsFrom, fragmentCount, timescale, lastEnd, endList, endOfTrack}
 use Rattle.rules.specs.Set.{handler, hdlrAt, mdhdAt, same, rule28, rule28From, agrees}
 use Rattle.rules.specs.Course.{factsOf}
 use Rattle.rules.specs.declared.Header.{Header}
@@ -18,7 +18,7 @@ use Rattle.rules.specs.declared.Rule.{Rule}
 use Rattle.rules.specs.declared.Rule.the-variants.{Holds, Breaks}
 use Rattle.rules.specs.declared.TrackFacts.{TrackFacts}
 use Rattle.rules.proofs.Then.{then-holds, then-breaks, then-last, then-second, then-assoc, must-true, must-false, must-holds}
-use Rattle.track.specs.Course.{endOfTrack, Known}
+use Rattle.track.specs.Course.{Known}
 use Rattle.track.specs.Cursor.{NextAt}
 use Rattle.track.proofs.Table.{written, boundaries-written, known-count}
 use Rattle.set.specs.Says.{sameEnd}

@@ -1,4 +1,4 @@
--- What each answer of the set check says, case by case, in the paper's numbers.
+-- What the walks over the tracks of a bundle say: whether two tracks end alike, and what is left of a set from a record on.
 use Prim.Native.Nat.{ℕ, _-_}
 use mathlib.Core.Bool.{Bool, true, false}
 use mathlib.Core.List.{List}

@@ -24,14 +24,14 @@ use Rattle.rules.proofs.Forest.{look-found, boxes-box}
 use Rattle.rules.proofs.OnePass.{one-pass}
 use Rattle.rules.proofs.Then.{then-holds, then-breaks, must-true, must-false}
 use Rattle.boxes.proofs.Stands.{stands-here}
-use Rattle.track.specs.Course.{Fits}
+use Rattle.track.specs.Course.{CourseFits}
 use Rattle.track.proofs.Stepping.{judged-breaks, fits-box}
 
 -- the walk stands at a place, after n boxes, with a course: the whole comes to what is left
 pub record Walking (s : List ℕ) (at n : ℕ) (c : Course) : Type 0 where
   pub framing : framed s ≡ framing (forest Top s at) 0 n
   pub course : courseFrom s (On Start) (boxes s 0) ≡ courseFrom s c (boxes s at)
-  pub fits : Fits s c at
+  pub fits : CourseFits s c at
   pub inner : at ≤ length s
 
 pub walking-begins : (s : List ℕ) → Walking s 0 0 (On Start)

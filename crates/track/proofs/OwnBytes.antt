@@ -10,7 +10,7 @@ use lib.Dec.{eqb}
 use Rattle.numbers.specs.Numbers.{be4, be8, when}
 use Rattle.numbers.proofs.Bounds.{Reads, reads4, reads8, in-take, in-drop}
 use Rattle.rules.specs.Boxes.{headOf, sizeOf, whole}
-use Rattle.boxes.specs.Stands.{Stands, Whole}
+use Rattle.boxes.specs.Stands.{Stands, WholeBox}
 use Rattle.rules.specs.declared.Spot.{Spot}
 
 module _ (s : List ℕ) (b : Spot) (d : Stands s b) (e : ℕ) (q : b .at + b .size ≡ e) where
@@ -27,7 +27,7 @@ module _ (s : List ℕ) (b : Spot) (d : Stands s b) (e : ℕ) (q : b .at + b .si
   own-read r i h = in-take r (e - b .at) (drop (b .at) s) i (omega arith) ∙ in-drop r (b .at) s i
 
   -- and are one box with the same header
-  pub own-whole : Whole (take (e - b .at) (drop (b .at) s)) (b .head)
+  pub own-whole : WholeBox (take (e - b .at) (drop (b .at) s)) (b .head)
   unfolding headOf sizeOf
   own-whole =
       let m = take (e - b .at) (drop (b .at) s) in

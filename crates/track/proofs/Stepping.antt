@@ -2,12 +2,13 @@
 use mathlib.Core.Path.{_≡_, refl, sym, ap, subst, _∙_}
 use mathlib.Core.List.{List}
 use mathlib.Core.Bool.{Bool, true, false, not, true≢false}
+use mathlib.Core.Logic.{_⊎_, inl, inr, ⊎-elim}
 use Prim.Native.Nat.{ℕ, _+_, _-_, _≤_}
 use native.Mathlib.Omega.{arith}
 use lib.ListN.{length}
 use lib.Dec.{eqb}
 use Rattle.numbers.specs.Numbers.{when}
-use Rattle.rules.specs.Kinds.{ftyp, mdat}
+use Rattle.rules.specs.Kinds.{mdat}
 use Rattle.rules.specs.Rules.{_then_, moved}
 use Rattle.rules.specs.Boxes.{Box, whole}
 use Rattle.rules.specs.Order.{ordered, awaits, step6, onStepped}
@@ -36,7 +37,7 @@ use Rattle.rules.proofs.Then.{moved-then, moved-holds, moved-breaks}
 use Rattle.boxes.specs.Stands.{Stands}
 use Rattle.header.specs.Answers.{FactsIn}
 use Rattle.header.specs.declared.HeaderFacts.{HeaderFacts}
-use Rattle.track.specs.Course.{boxOf, Few, Fits, Stops, saysPasses}
+use Rattle.track.specs.Course.{boxOf, FewFragments, CourseFits, Stops, saysPasses}
 
 -- a rule that holds, and one that breaks
 judged-holds : {r : Rule} {f : TrackFacts} → r ≡ Holds → judgedBy r f ≡ Accepted f
@@ -88,29 +89,29 @@ module _ (s : List ℕ) (f : TrackFacts) (b d : Spot) (m : List ℕ) (e : m ≡ 
   fragment-bad h = sym (judged-breaks (grown s f (b .at)) (rules-are ∙ moved-breaks (b .at) h))
 
 -- fragments stay few
-few-later : (j : Judged) (a b : ℕ) → a ≤ b → Few j a → Few j b
+few-later : (j : Judged) (a b : ℕ) → a ≤ b → FewFragments j a → FewFragments j b
 few-later (Accepted f) a b h k = omega arith
 few-later (Refused n t p) a b h k = tt
 
-few-more : (s : List ℕ) (j : Judged) (x a b : ℕ) → a + 1 ≤ b → Few j a → Few (joined s j x) b
+few-more : (s : List ℕ) (j : Judged) (x a b : ℕ) → a + 1 ≤ b → FewFragments j a → FewFragments (joined s j x) b
 unfolding joined grown judgedBy
 few-more s (Refused n t p) x a b h k = tt
 few-more s (Accepted f) x a b h k = by (shapeAt s (f .header) x then timingAt s (f .header) (f .end) x)
   where
-    by : (r : Rule) → Few (judgedBy r (grown s f x)) b
+    by : (r : Rule) → FewFragments (judgedBy r (grown s f x)) b
     by Holds = omega arith
     by (Breaks n t p) = tt
 
-few-opened : (s : List ℕ) (f : Ftyp) (x b : ℕ) → Few (opened s f x) b
+few-opened : (s : List ℕ) (f : Ftyp) (x b : ℕ) → FewFragments (opened s f x) b
 unfolding opened openedFacts judgedBy
 few-opened s f x b = by (headerRules x f (whole s x))
   where
-    by : (r : Rule) → Few (judgedBy r (openedFacts s x)) b
+    by : (r : Rule) → FewFragments (judgedBy r (openedFacts s x)) b
     by Holds = omega arith
     by (Breaks n t p) = tt
 
 -- what a stage fits, fits after the box that it awaits
-fits-brought : (s : List ℕ) (b : Spot) → Stands s b → (c : Reached) → Fits s (On c) (b .at) → Fits s (On (brought s c b)) (b .at + b .size)
+fits-brought : (s : List ℕ) (b : Spot) → Stands s b → (c : Reached) → CourseFits s (On c) (b .at) → CourseFits s (On (brought s c b)) (b .at + b .size)
 unfolding brought
 fits-brought s b w Start h = tt
 fits-brought s b w (Typed f) h = few-opened s f (b .at) (b .at + b .size)
@@ -120,13 +121,13 @@ fits-brought s b w (Paired j) h = (few-later j (b .at) (b .at + b .size) (omega 
 
 -- a course that fits, fits after one box more
 module _ (s : List ℕ) (x : Box) (w : Stands s (spotOf x)) where
-  fits-step : (c : Reached) → Fits s (On c) (x .at) → Fits s (On c) (x .at + x .size) → (p : Stepped) (o : Bool)
-      → Fits s (onStepped p (λ g. On (when o (brought s c (spotOf x)) c)) (Broken (x .at))) (x .at + x .size)
+  fits-step : (c : Reached) → CourseFits s (On c) (x .at) → CourseFits s (On c) (x .at + x .size) → (p : Stepped) (o : Bool)
+      → CourseFits s (onStepped p (λ g. On (when o (brought s c (spotOf x)) c)) (Broken (x .at))) (x .at + x .size)
   fits-step c h l Wrong o = tt
   fits-step c h l (To g) true = fits-brought s (spotOf x) w c h
   fits-step c h l (To g) false = l
 
-  pub fits-box : (c : Course) → Fits s c (x .at) → Fits s (andBox s c x) (x .at + x .size)
+  pub fits-box : (c : Course) → CourseFits s c (x .at) → CourseFits s (andBox s c x) (x .at + x .size)
   unfolding andBox step6
   fits-box (On Start) h = fits-step Start h tt (step6 stage.Start (x .kind)) (ordered (x .kind))
   fits-box (On (Typed f)) h = fits-step (Typed f) h tt (step6 stage.Typed (x .kind)) (ordered (x .kind))
@@ -135,7 +136,7 @@ module _ (s : List ℕ) (x : Box) (w : Stands s (spotOf x)) where
   fits-box (On (Halved j m)) h = by (eqb (x .kind) mdat) refl
     where
       by : (t : Bool) → eqb (x .kind) mdat ≡ t
-          → Fits s
+          → CourseFits s
           (onStepped (when t (To stage.Paired) Wrong) (λ g. On (when (ordered (x .kind)) (brought s (Halved j m) (spotOf x)) (Halved j m))) (Broken (x .at)))
           (x .at + x .size)
       by true e = rw (spoken (x .kind) .3 e) (fits-brought s (spotOf x) w (Halved j m) h)
@@ -144,6 +145,11 @@ module _ (s : List ℕ) (x : Box) (w : Stands s (spotOf x)) where
       fits-step (Paired j) h (few-later j (x .at) (x .at + x .size) (omega arith) h) (step6 stage.Paired (x .kind)) (ordered (x .kind))
   fits-box (Broken p) h = tt
 
+-- a step that leads to a stage
+abbrev LeadsSomewhere : Stepped → Type 0
+LeadsSomewhere (To g) = Unit {0}
+LeadsSomewhere Wrong = ⊥
+
 -- a box after a stage, by what rule 6 answers
 module _ (c : Reached) (k : ℕ) {p : Stepped} (e : p ≡ step6 (stageOf c) k) where
   -- one that may not stand there
@@ -151,39 +157,29 @@ module _ (c : Reached) (k : ℕ) {p : Stepped} (e : p ≡ step6 (stageOf c) k) w
   unfolding andBox
   box-wrong w s b = rw (sym e ∙ w)
 
-  -- the awaited one
-  pub box-brought : {h : Stage} → p ≡ To h → ordered k ≡ true → (s : List ℕ) (b : Spot) → On (brought s c b) ≡ andBox s (On c) (boxOf b k)
+  -- one that may, and stops the course: the order speaks of it
+  spoken-of : {h : Stage} → p ≡ To h → Stops (On c) k → ordered k ≡ true
+  spoken-of w = ⊎-elim (λ o. o) (λ (x : step6 (stageOf c) k ≡ Wrong). absurd (subst LeadsSomewhere (sym w ∙ e ∙ x) tt))
+
+  pub box-brought : {h : Stage} → p ≡ To h → Stops (On c) k → (s : List ℕ) (b : Spot) → On (brought s c b) ≡ andBox s (On c) (boxOf b k)
   unfolding andBox
-  box-brought w o s b = rw (sym e ∙ w, o)
+  box-brought w o s b = rw (sym e ∙ w, spoken-of w o)
 
--- a step that leads to a stage
-abbrev LeadsSomewhere : Stepped → Type 0
-LeadsSomewhere (To g) = Unit {0}
-LeadsSomewhere Wrong = ⊥
-
--- where no other box may stand, one that may is one that the order speaks of
-pub start-spoken : (k : ℕ) {p : Stepped} {h : Stage} → p ≡ step6 stage.Start k → p ≡ To h → ordered k ≡ true
-unfolding step6
-start-spoken k {p} {h} e w = by (eqb k ftyp) refl (sym e ∙ w)
+-- where no other box may stand, every box stops the course
+pub stops-strict : (g : Stage) (k w : ℕ) (n : Stage) → step6 g k ≡ when (eqb k w) (To n) Wrong → (eqb k w ≡ true → ordered k ≡ true)
+    → (ordered k ≡ true) ⊎ (step6 g k ≡ Wrong)
+stops-strict g k w n q f = by (eqb k w) refl q
   where
-    by : (t : Bool) → eqb k ftyp ≡ t → when t (To stage.Typed) Wrong ≡ To h → ordered k ≡ true
-    by true q r = spoken k .0 q
-    by false q r = absurd (subst LeadsSomewhere (sym r) tt)
-
-pub halved-spoken : (k : ℕ) {p : Stepped} {h : Stage} → p ≡ step6 stage.Halved k → p ≡ To h → ordered k ≡ true
-unfolding step6
-halved-spoken k {p} {h} e w = by (eqb k mdat) refl (sym e ∙ w)
-  where
-    by : (t : Bool) → eqb k mdat ≡ t → when t (To stage.Paired) Wrong ≡ To h → ordered k ≡ true
-    by true q r = spoken k .3 q
-    by false q r = absurd (subst LeadsSomewhere (sym r) tt)
+    by : (t : Bool) → eqb k w ≡ t → step6 g k ≡ when t (To n) Wrong → (ordered k ≡ true) ⊎ (step6 g k ≡ Wrong)
+    by true e r = inl (f e)
+    by false e r = inr r
 
 -- where others may stand, a box that the order doesn't speak of is passed over
 pub passes-loose : (k : ℕ) (o : Bool) → o ≡ ordered k → (c : Reached) (w : ℕ) (n : Stage) → step6 (stageOf c) k ≡ awaits w n (stageOf c) k
-    → (ordered k ≡ false → eqb k w ≡ false) → (ordered k ≡ true → Stops (On c) k) → saysPasses (not o) (On c) k
+    → (ordered k ≡ false → eqb k w ≡ false) → saysPasses (not o) (On c) k
 unfolding andBox awaits
-passes-loose k true e c w n q f g = g (sym e)
-passes-loose k false e c w n q f g = λ s b. rw (q, f (sym e), ← e)
+passes-loose k true e c w n q f = inl (sym e)
+passes-loose k false e c w n q f = λ s b. rw (q, f (sym e), ← e)
 
 -- where the order is broken every box is passed over
 pub passes-broken : (p k : ℕ) → saysPasses true (Broken p) k

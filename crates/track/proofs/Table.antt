@@ -9,7 +9,7 @@ use lib.ListN.{length, drop, set, length-set}
 use lib.Seq.{sets, sets-eq}
 use borrow.Author.Tests.{lt-ltb, le-ltb, leb-true}
 use Rattle.rules.specs.Limits.{byteLimit}
-use Rattle.rules.specs.Track.{rule1, Outcome, ruling, timescale, roomFor, refused, accepted, trackOutcome, fragments, fragmentsFrom, fragmentCount, startAt, endList, ticks, boundaries}
+use Rattle.rules.specs.Track.{rule1, Outcome, ruling, timescale, roomFor, refused, accepted, trackOutcome, fragments, fragmentsFrom, fragmentCount, startAt, endList, ticks, boundaries, endOfTrack}
 use Rattle.rules.specs.Course.{judgedBy, factsOf, judgement}
 use Rattle.rules.specs.declared.Judged.the-variants.{Accepted, Refused}
 use Rattle.rules.specs.declared.Previous.{Previous}
@@ -21,7 +21,7 @@ use Rattle.rules.proofs.Boundaries.{boundaries-length}
 use Rattle.rules.proofs.Sound.{accepted-keeps}
 use Rattle.rules.proofs.Then.{must-holds}
 use Rattle.rules.proofs.Walk.{some-fragment}
-use Rattle.track.specs.Course.{endOfTrack, Known}
+use Rattle.track.specs.Course.{Known}
 use Rattle.track.specs.Cursor.{NextAt}
 
 -- each start, and the last end, if there is one

@@ -9,7 +9,7 @@ ghost use Rattle.rules.specs.Header.{ftypIn};
 ghost use Rattle.rules.specs.Course.{opened, joined, andBox, courseEnd};
 ghost use Rattle.rules.specs.declared.Judged.the-variants.{Accepted, Refused};
 ghost use Rattle.boxes.specs.Stands.{Stands};
-ghost use Rattle.track.specs.Course.{boxOf, Few, Fits, Stops, saysPasses};
+ghost use Rattle.track.specs.Course.{boxOf, FewFragments, CourseFits, Stops, saysPasses};
 use boxes::kinds::FTYP;
 use boxes::kinds::MDAT;
 use boxes::kinds::MOOF;
@@ -154,7 +154,7 @@ fn and_fragment(s: &[u8], f: TrackFacts, moof: Spot, mdat: Spot) -> Judged
 // A `moof` and its `mdat`: the fragment's rules, unless one was broken before.
 fn joined(s: &[u8], sofar: Judged, moof: Spot, mdat: Spot) -> Judged
     requires { ⌜ Stands (now s) moof × Stands (now s) mdat × (moof .at + moof .size ≡ mdat .at) ⌝ }
-    requires { ⌜ (length (now s) ≤ byteLimit) × Few sofar (mdat .at) ⌝ }
+    requires { ⌜ (length (now s) ≤ byteLimit) × FewFragments sofar (mdat .at) ⌝ }
     ensures { λ r. ⌜ r ≡ joined (now (s .entry)) sofar (moof .at) ⌝ }
 {
     match sofar {
@@ -189,7 +189,7 @@ pub fn passes(course: Course, kind: u32) -> bool
 
 // One box more, which is not passed over: rule 6 tells whether it may stand there, and then it brings what its stage awaits.
 pub fn and_box(s: &[u8], course: Course, b: Spot, kind: u32) -> Course
-    requires { ⌜ Fits (now s) course (b .at) × Stands (now s) b × (length (now s) ≤ byteLimit) × Stops course kind ⌝ }
+    requires { ⌜ CourseFits (now s) course (b .at) × Stands (now s) b × (length (now s) ≤ byteLimit) × Stops course kind ⌝ }
     ensures { λ r. ⌜ r ≡ andBox (now (s .entry)) course (boxOf b kind) ⌝ }
 {
     match course {

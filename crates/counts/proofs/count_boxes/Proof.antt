@@ -15,10 +15,10 @@ returns : tie.Need-returns
 returns c =
     judged _ _ (c .before .before .before .before .before .before .before .before .before .before .before .before .before .pre) _
     (c .before .before .before .before .before .before .before .before .tally .ensures)
-    (c .before .before .before .before .count-of .ensures)
-    (c .before .before .before .count-of2 .ensures)
+    (c .before .before .before .before .count-entry .ensures)
+    (c .before .before .before .count-entry2 .ensures)
     (c .before .before .first-broken .ensures)
-    (c .before .count-of3 .ensures)
+    (c .before .count-entry3 .ensures)
     (c .first-broken2 .ensures)
 
 pub count-boxes-spec : {M : Type 1} → statement M

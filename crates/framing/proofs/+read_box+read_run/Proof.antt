@@ -20,7 +20,7 @@ use Rattle.framing.proofs.+read_box+read_run.Lts-read_run as read-run-l
 use Rattle.boxes.proofs.inside.Reads as inside-reads
 use Rattle.boxes.proofs.look.Reads as look-reads
 use Rattle.framing.proofs.broken_step.Reads as broken-step-reads
-use Rattle.framing.proofs.passed.Reads as passed-reads
+use Rattle.framing.proofs.passed_to.Reads as passed-reads
 use Rattle.framing.proofs.+read_box+read_run.{statement}
 use Rattle.framing.proofs.+read_box+read_run.Tie.{close}
 
@@ -75,7 +75,7 @@ pub +read-box+read-run-spec : {M : Type 1} → statement M
     (λ c. omega arith)
     (λ c κs. let f = told (c .before .before .before .before .before .before .before .before .look .ensures .0) (c .before .before .before .before .before .before .l .given .1) in omega (arith, body-length f))
     (λ c κs. tt)
-    (λ c. reads-container _ _ _ _ _ (c .before .before .before .before .before .before .before .before .before .before .before .if2 .left) (c .before .before .before .before .before .before .before .before .before .before .look .ensures .0) (c .before .before .before .before .before .before .before .before .l .given .1) (c .before .before .before .before .before .before .inside .ensures) _ _ (c .before .before .before .before .inner .given .1) (c .before .read-run .ensures) (c .passed .ensures)))
+    (λ c. reads-container _ _ _ _ _ (c .before .before .before .before .before .before .before .before .before .before .before .if2 .left) (c .before .before .before .before .before .before .before .before .before .before .look .ensures .0) (c .before .before .before .before .before .before .before .before .l .given .1) (c .before .before .before .before .before .before .inside .ensures) _ _ (c .before .before .before .before .inner .given .1) (c .before .read-run .ensures) (c .passed-to .ensures)))
     λ t. read-run-lts.spec
     (read-box-below t, read-box.Post)
     (read-run-at t)

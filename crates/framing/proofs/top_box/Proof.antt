@@ -51,7 +51,7 @@ returns-5 : tie.Need-returns-5
 returns-5 c =
     let a = c .before .before .before .before .before .before .before .before .before .before .before .before .before .before .args in
     reads-container Top (now (a .s)) (a .at) 0 (a .n) (c .before .before .before .before .before .before .before .before .before .before .before .if2 .left) (c .before .before .before .before .before .before .before .before .before .before .look .ensures .0) (c .before .before .before .before .before .before .before .before .l .given .1)
-    (c .before .before .before .before .before .before .inside .ensures) (c .before .read-run .result) (c .passed .result) (c .before .before .before .before .inner .given .1) (rw (zero-add (a .at)) (c .before .read-run .ensures)) (c .passed .ensures)
+    (c .before .before .before .before .before .before .inside .ensures) (c .before .read-run .result) (c .passed-to .result) (c .before .before .before .before .inner .given .1) (rw (zero-add (a .at)) (c .before .read-run .ensures)) (c .passed-to .ensures)
 
 pub top-box-spec : {M : Type 1} → statement M
 top-box-spec =

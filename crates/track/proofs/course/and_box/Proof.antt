@@ -6,7 +6,7 @@ use Rattle.rules.specs.declared.Course.the-variants.{On}
 use Rattle.rules.specs.declared.Ftyp.{Ftyp}
 use Rattle.rules.specs.declared.Judged.{Judged}
 use Rattle.rules.specs.declared.Reached.the-variants.{Start, Typed, Headed, Halved, Paired}
-use Rattle.track.proofs.Stepping.{box-wrong, box-brought, start-spoken, halved-spoken}
+use Rattle.track.proofs.Stepping.{box-wrong, box-brought}
 use Rattle.track.proofs.course.and_box.Statement.{statement}
 use Rattle.track.proofs.course.and_box.Tie as tie
 
@@ -35,10 +35,9 @@ returns-6 c = rw (c .enum-told .given .1)
 returns-7 : tie.Need-returns-7
 unfolding brought
 returns-7 c =
-    let e = c .before .before .before .step6 .ensures in
-    let w = c .before .enum-told3 .given .1 in
+    let o = rw (c .before .before .before .before .before .before .before .course .given .1, c .before .before .before .before .enum-told2 .given .1) at (c .before .before .before .before .before .before .before .before .before .before .pre .3) in
     rw (c .before .before .before .before .before .before .before .course .given .1, c .before .before .before .before .enum-told2 .given .1)
-    (ap (λ (f : Ftyp). On (Typed f)) (c .typed .ensures) ∙ box-brought Start _ e w (start-spoken _ e w) _ _)
+    (ap (λ (f : Ftyp). On (Typed f)) (c .typed .ensures) ∙ box-brought Start _ (c .before .before .before .step6 .ensures) (c .before .enum-told3 .given .1) o _ _)
 
 returns-8 : tie.Need-returns-8
 unfolding brought
@@ -62,10 +61,9 @@ joined-requires c κs =
 returns-10 : tie.Need-returns-10
 unfolding brought
 returns-10 c =
-    let e = c .before .before .before .step64 .ensures in
-    let w = c .before .enum-told9 .given .1 in
+    let o = rw (c .before .before .before .before .before .before .before .before .course .given .1, c .before .before .before .before .before .c3 .given .1) at (c .before .before .before .before .before .before .before .before .before .before .before .pre .3) in
     rw (c .before .before .before .before .before .before .before .before .course .given .1, c .before .before .before .before .before .c3 .given .1)
-    (ap (λ (j : Judged). On (Paired j)) (c .joined .ensures) ∙ box-brought (Halved _ _) _ e w (halved-spoken _ e w) _ _)
+    (ap (λ (j : Judged). On (Paired j)) (c .joined .ensures) ∙ box-brought (Halved _ _) _ (c .before .before .before .step64 .ensures) (c .before .enum-told9 .given .1) o _ _)
 
 returns-11 : tie.Need-returns-11
 unfolding brought

@@ -2,8 +2,8 @@ use mathlib.Core.Path.{_∙_}
 use Rattle.rules.specs.Counts.{counted}
 use Rattle.counts.proofs.Plain.{most-any, some-any}
 use borrow.Author.Needs.{needs}
-use Rattle.counts.proofs.count_of.Statement.{statement}
-use Rattle.counts.proofs.count_of.Tie as tie
+use Rattle.counts.proofs.count_entry.Statement.{statement}
+use Rattle.counts.proofs.count_entry.Tie as tie
 
 returns : tie.Need-returns
 unfolding counted
@@ -29,5 +29,5 @@ returns-5 : tie.Need-returns-5
 unfolding counted
 returns-5 c = rw (c .before .enum-told5 .given .1) (c .one-of2 .ensures)
 
-pub count-of-spec : {M : Type 1} → statement M
-count-of-spec = tie.close (tie.spec (λ c. search needs) (λ c. search needs) (λ c κs. search needs) (λ c. search needs) (λ c κs. search needs) (λ c. search needs) (λ c κs. search needs) (λ c. search needs) (λ c κs. search needs) returns returns-2 returns-3 returns-4 returns-5)
+pub count-entry-spec : {M : Type 1} → statement M
+count-entry-spec = tie.close (tie.spec (λ c. search needs) (λ c. search needs) (λ c κs. search needs) (λ c. search needs) (λ c κs. search needs) (λ c. search needs) (λ c κs. search needs) (λ c. search needs) (λ c κs. search needs) returns returns-2 returns-3 returns-4 returns-5)

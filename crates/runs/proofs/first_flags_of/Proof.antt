@@ -1,12 +1,12 @@
--- `runs::first_flags` meets its contract. Assumes nothing.
+-- `runs::first_flags_of` meets its contract. Assumes nothing.
 use mathlib.Core.Path.{sym, _∙_}
 use native.Mathlib.Nat.{mul-zero, add-zero}
 use native.Mathlib.Omega.{arith}
 use borrow.Author.Needs.{needs}
 use Rattle.rules.specs.Fragment.{sampleAt, firstFlagsOf}
 use Rattle.runs.proofs.Flags.{reach-first, reach-own}
-use Rattle.runs.proofs.first_flags.Statement.{statement}
-use Rattle.runs.proofs.first_flags.Tie as tie
+use Rattle.runs.proofs.first_flags_of.Statement.{statement}
+use Rattle.runs.proofs.first_flags_of.Tie as tie
 
 word-requires : tie.Need-word-requires
 word-requires c κs =
@@ -49,8 +49,8 @@ unfolding firstFlagsOf
 returns-3 c =
     rw (← c .before .before .before .before .before .pre .1, ← c .before .before .before .has .ensures, c .before .before .if1 .left, ← c .before .has2 .ensures, c .if2 .left)
 
-pub first-flags-spec : {M : Type 1} → statement M
-first-flags-spec =
+pub first-flags-of-spec : {M : Type 1} → statement M
+first-flags-of-spec =
     tie.close
     (tie.spec
     (λ c κs. search needs) (λ c κs. search needs) (λ c. search needs) word-requires returns (λ c κs. search needs)

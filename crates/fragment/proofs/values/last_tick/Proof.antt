@@ -1,12 +1,12 @@
--- `fragment::values::end_at` meets its contract. Assumes nothing.
+-- `fragment::values::last_tick` meets its contract. Assumes nothing.
 use mathlib.Core.Path.{refl}
 use Prim.Native.Nat.{_+_}
 use native.Mathlib.Omega.{arith}
 use borrow.Author.Needs.{needs}
 use borrow.Author.Tests.{lt-leb, le-leb}
 use Rattle.rules.specs.Limits.{tickLimit}
-use Rattle.fragment.proofs.values.end_at.Statement.{statement}
-use Rattle.fragment.proofs.values.end_at.Tie as tie
+use Rattle.fragment.proofs.values.last_tick.Statement.{statement}
+use Rattle.fragment.proofs.values.last_tick.Tie as tie
 
 returns : tie.Need-returns
 returns c = rw (lt-leb 1 (c .before .args .ticks) (omega arith))
@@ -21,6 +21,6 @@ returns-3 c =
     let a = c .before .before .args in
     (rw (le-leb 1 (a .ticks) (omega arith), le-leb (a .start + a .ticks) tickLimit (omega arith)), refl, omega arith)
 
-pub end-at-spec : {M : Type 1} → statement M
-end-at-spec =
+pub last-tick-spec : {M : Type 1} → statement M
+last-tick-spec =
     tie.close (tie.spec returns (λ c. search needs) returns-2 (λ c. search needs) returns-3)
