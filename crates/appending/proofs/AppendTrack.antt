@@ -24,7 +24,7 @@ use Rattle.rules.specs.declared.Rule.{Rule}
 use Rattle.rules.specs.declared.Header.{Header}
 use Rattle.rules.proofs.Then.{then-assoc, moved-then, moved-moved}
 use Rattle.rules.proofs.Forest.{FoundBox}
-use Rattle.rules.proofs.Walk.{Siblings, boxes-siblings, after-moof, mdat-at}
+use Rattle.rules.proofs.Walk.{Siblings, boxes-siblings, after-moof, mdat-next}
 use Rattle.appending.proofs.Front.{whole-front, head-front, size-front, whole-behind, head-behind, size-behind}
 use Rattle.appending.proofs.Append.{EndsOnBox}
 use Rattle.appending.proofs.AppendOrder.{stageFrom, stageLed, LeadsOn, fragments-append}
@@ -63,7 +63,7 @@ in-full s at g h (x ∷ xs) y e r =
 
     here : stageFrom Halved xs ≡ To h → FragmentAt s (x .at)
     here q =
-        let m : mdatAt s (x .at) ≡ at + x .size = rw (y .0) (mdat-at s at (omega (arith, d .size, d .fits)) ∙ ap (λ (n : ℕ). at + n) (d .size)) in
+        let m : mdatAt s (x .at) ≡ at + x .size = rw (y .0) (mdat-next s d) in
         ((x .inner, x .size, x .kind, rw (y .0) d), rw m (next xs (y .2) q))
 
     go : (p : Stepped) → step6 g (x .kind) ≡ p → onStepped p (λ k. stageFrom k xs) Wrong ≡ To h → (t : Bool) → eqb (x .kind) moof ≡ t

@@ -1,8 +1,8 @@
 -- The law of one pass: the course over a slice comes to rule 6, then the header's rules, then the fragments', with what is known of the track.
-use mathlib.Core.Path.{_≡_, refl, sym, ap, ap₂, _∙_}
+use mathlib.Core.Path.{_≡_, refl, sym, ap, ap₂, subst, _∙_}
 use mathlib.Core.List.{List, [], _∷_}
 use mathlib.Core.Bool.{Bool, true, false, _||_, true≢false}
-use Prim.Native.Nat.{ℕ, _+_}
+use Prim.Native.Nat.{ℕ, _+_, _-_}
 use native.Mathlib.Nat.{zero-add}
 use native.Mathlib.Omega.{arith}
 use lib.ListN.{length}
@@ -11,22 +11,26 @@ use borrow.Author.Tests.{eqb-true}
 use Rattle.numbers.specs.Numbers.{when}
 use Rattle.rules.specs.Kinds.{ftyp, moov, moof, mdat}
 use Rattle.rules.specs.Rules.{_then_}
-use Rattle.rules.specs.Boxes.{Box, boxes, placesOf, whole}
+use Rattle.rules.specs.Boxes.{Box, boxes, placesOf, headOf, sizeOf, whole}
 use Rattle.rules.specs.Counts.{wanted, seen, seenFrom, firstOf}
 use Rattle.rules.specs.Order.{ordered, awaits, step6, onStepped, orderFrom, rule6}
 use Rattle.rules.specs.Header.{ftypIn}
-use Rattle.rules.specs.Track.{moovAt, moovOf, ftypOf, headerOf, fragmentsFrom, fragments, fragmentCount, shapeAt, timingAt, endAt, lastEnd, rulesOfFragments, rulesOfHeader}
+use Rattle.rules.specs.Track.{moovAt, moovOf, ftypOf, headerOf, fragmentsFrom, fragments, fragmentCount, mdatAt, shapeAt, timingAt, startAt, endAt, firstStart, lastEnd, rulesOfFragments, rulesOfHeader}
 use Rattle.rules.specs.Set.{mdhdAt, hdlrAt}
-use Rattle.rules.specs.Course.{judgedBy, openedFacts, opened, grown, joined, stageOf, spotOf, brought, andBox, courseFrom, courseEnd, courseOf, factsOf}
+use Rattle.rules.specs.Course.{judgedBy, openedFacts, opened, orTick, grown, joined, stageOf, spotOf, brought, andBox, waiting, courseFrom, courseEnd, courseOf, factsOf}
 use Rattle.rules.specs.declared.Course.{Course}
 use Rattle.rules.specs.declared.Course.the-variants.{On, Broken}
 use Rattle.rules.specs.declared.Entry.the-variants.{One}
+use Rattle.rules.specs.declared.FirstTick.{FirstTick}
+use Rattle.rules.specs.declared.FirstTick.the-variants as firstTick
+use Rattle.rules.specs.declared.Ftyp.{Ftyp}
 use Rattle.rules.specs.declared.Judged.{Judged}
 use Rattle.rules.specs.declared.Judged.the-variants.{Accepted, Refused}
 use Rattle.rules.specs.declared.Previous.the-variants.{Unset, End}
 use Rattle.rules.specs.declared.Reached.{Reached}
 use Rattle.rules.specs.declared.Reached.the-variants.{Start, Typed, Headed, Halved, Paired}
 use Rattle.rules.specs.declared.Seen.the-variants.{Once}
+use Rattle.rules.specs.declared.Stage.{Stage}
 use Rattle.rules.specs.declared.Stage.the-variants as stage
 use Rattle.rules.specs.declared.Stepped.{Stepped}
 use Rattle.rules.specs.declared.Stepped.the-variants as stepped
@@ -34,7 +38,8 @@ use Rattle.rules.specs.declared.Rule.{Rule}
 use Rattle.rules.specs.declared.Rule.the-variants.{Holds, Breaks}
 use Rattle.rules.specs.declared.TrackFacts.{TrackFacts}
 use Rattle.rules.proofs.Then.{then-assoc}
-use Rattle.rules.proofs.Walk.{Siblings, boxes-siblings}
+use Rattle.rules.proofs.Forest.{FoundBox}
+use Rattle.rules.proofs.Walk.{Siblings, boxes-siblings, mdat-next}
 use Rattle.rules.proofs.FirstSeen.{first-stays, first-at}
 
 -- a rule that comes first, then what follows it
@@ -48,10 +53,18 @@ unfolding judgedBy _then_
 behind-then Holds q f = refl
 behind-then (Breaks n t p) q f = refl
 
+-- `moov` at a place of a slice, after `ftyp`
+abbrev openedAt : List ℕ → Ftyp → ℕ → Judged
+openedAt s f at = opened f at (whole s at)
+
+-- the fragment at a place of a slice
+unfoldable joinedAt : List ℕ → Judged → ℕ → Judged
+joinedAt s j x = joined j x (whole s x) (headOf s (mdatAt s x)) (sizeOf s (mdatAt s x) - headOf s (mdatAt s x))
+
 -- fragments at places, one after the other
 unfoldable all : List ℕ → Judged → List ℕ → Judged
 all s j [] = j
-all s j (x ∷ xs) = all s (joined s j x) xs
+all s j (x ∷ xs) = all s (joinedAt s j x) xs
 
 -- the first box's place
 abbrev firstAt : List Box → ℕ
@@ -69,8 +82,8 @@ orderLeft len (Broken p) xs = Breaks 6 0 p
 
 -- what the other rules come to after a stage, if the boxes that are left are in order
 abbrev rulesFrom : List ℕ → Reached → List Box → Judged
-rulesFrom s Start xs = all s (opened s (ftypIn (whole s (firstAt xs))) (moovIn xs)) (placesOf moof xs)
-rulesFrom s (Typed f) xs = all s (opened s f (moovIn xs)) (placesOf moof xs)
+rulesFrom s Start xs = all s (openedAt s (ftypIn (whole s (firstAt xs))) (moovIn xs)) (placesOf moof xs)
+rulesFrom s (Typed f) xs = all s (openedAt s f (moovIn xs)) (placesOf moof xs)
 rulesFrom s (Headed j) xs = all s j (placesOf moof xs)
 rulesFrom s (Halved j m) xs = all s j (m .at ∷ placesOf moof xs)
 rulesFrom s (Paired j) xs = all s j (placesOf moof xs)
@@ -148,19 +161,76 @@ spoken k =
     let d = eqb k mdat in
     (or-first a b c d, or-second a b c d, or-third a b c d, or-last a b c d)
 
+-- what holds of the broken order at a box, of what the box brings, and of a stage that others may follow, holds after the box
+module _ (P : Course → Type 0) (own w : List ℕ) (x : Box) (b : P (Broken (x .at))) where
+  -- it holds of a stage that others may follow
+  abbrev Stays : Reached → Type 0
+  Stays Start = Unit {0}
+  Stays (Typed f) = P (On (Typed f))
+  Stays (Headed j) = P (On (Headed j))
+  Stays (Halved j m) = Unit {0}
+  Stays (Paired j) = P (On (Paired j))
+
+  module _ (c : Reached) (h : P (On (brought own w c (spotOf x)))) where
+    any-step : P (On c) → (p : Stepped) (o : Bool) → P (onStepped p (λ g. On (when o (brought own w c (spotOf x)) c)) (Broken (x .at)))
+    any-step l stepped.Wrong o = b
+    any-step l (stepped.To g) true = h
+    any-step l (stepped.To g) false = l
+
+    one-step : (k : ℕ) (n : Stage) → (eqb (x .kind) k ≡ true → ordered (x .kind) ≡ true)
+        → P
+        (onStepped (when (eqb (x .kind) k) (stepped.To n) stepped.Wrong) (λ g. On (when (ordered (x .kind)) (brought own w c (spotOf x)) c)) (Broken (x .at)))
+    one-step k n o = by (eqb (x .kind) k) refl
+      where
+        by : (t : Bool) → eqb (x .kind) k ≡ t
+            → P (onStepped (when t (stepped.To n) stepped.Wrong) (λ g. On (when (ordered (x .kind)) (brought own w c (spotOf x)) c)) (Broken (x .at)))
+        by true e = rw (o e) h
+        by false e = b
+
+  pub after-box : (c : Reached) → P (On (brought own w c (spotOf x))) → Stays c → P (andBox own w (On c) x)
+  unfolding andBox step6
+  after-box Start h l = one-step Start h ftyp stage.Typed (spoken (x .kind) .0)
+  after-box (Typed f) h l = any-step (Typed f) h l (step6 stage.Typed (x .kind)) (ordered (x .kind))
+  after-box (Headed j) h l = any-step (Headed j) h l (step6 stage.Headed (x .kind)) (ordered (x .kind))
+  after-box (Halved j m) h l = one-step (Halved j m) h mdat stage.Paired (spoken (x .kind) .3)
+  after-box (Paired j) h l = any-step (Paired j) h l (step6 stage.Paired (x .kind)) (ordered (x .kind))
+
+-- a `moof` that waits for its `mdat` ends at a place
+abbrev Waits : List ℕ → Course → ℕ → Type 0
+Waits s (On Start) at = Unit {0}
+Waits s (On (Typed f)) at = Unit {0}
+Waits s (On (Headed j)) at = Unit {0}
+Waits s (On (Halved j m)) at = mdatAt s (m .at) ≡ at
+Waits s (On (Paired j)) at = Unit {0}
+Waits s (Broken p) at = Unit {0}
+
+-- so after one box more
+module _ (s : List ℕ) (x : Box) (d : FoundBox s (x .at) (x .inner) (x .size) (x .kind)) where
+  abbrev Next : Course → Type 0
+  Next c = Waits s c (x .at + x .size)
+
+  waits-next : (own w : List ℕ) (c : Course) → Next (andBox own w c x)
+  unfolding brought andBox
+  waits-next own w (On Start) = after-box Next own w x tt Start tt tt
+  waits-next own w (On (Typed f)) = after-box Next own w x tt (Typed f) tt tt
+  waits-next own w (On (Headed j)) = after-box Next own w x tt (Headed j) (mdat-next s d) tt
+  waits-next own w (On (Halved j m)) = after-box Next own w x tt (Halved j m) tt tt
+  waits-next own w (On (Paired j)) = after-box Next own w x tt (Paired j) (mdat-next s d) tt
+  waits-next own w (Broken p) = tt
+
 -- one box more: what is left stays what it is
 module _ (s : List ℕ) (len : ℕ) (x : Box) (xs : List Box) where
   -- rule 6 takes a step: what was left, and what is left then
   abbrev Leaves : Reached → Stepped → Bool → Type 0
   Leaves c p o =
       behind (onStepped p (λ h. orderFrom len h xs) (Breaks 6 0 (x .at))) (rulesFrom s c (x ∷ xs))
-      ≡ left s len (onStepped p (λ g. On (when o (brought s c (spotOf x)) c)) (Broken (x .at))) xs
+      ≡ left s len (onStepped p (λ g. On (when o (brought (whole s (x .at)) (waiting s (On c)) c (spotOf x)) c)) (Broken (x .at))) xs
 
   -- a box of the awaited type, which brings n
   module _
       (c n : Reached)
       (w : ℕ)
-      (b : brought s c (spotOf x) ≡ n)
+      (b : brought (whole s (x .at)) (waiting s (On c)) c (spotOf x) ≡ n)
       (o : eqb (x .kind) w ≡ true → ordered (x .kind) ≡ true)
       (e : eqb (x .kind) w ≡ true → rulesFrom s c (x ∷ xs) ≡ rulesFrom s n xs) where
     awaited : eqb (x .kind) w ≡ true → Leaves c (stepped.To (stageOf n)) (ordered (x .kind))
@@ -186,27 +256,28 @@ module _ (s : List ℕ) (len : ℕ) (x : Box) (xs : List Box) where
         by false p true q = refl
         by false p false q = ap (behind (orderFrom len (stageOf c) xs)) (f q)
 
-  step : (c : Course) → left s len c (x ∷ xs) ≡ left s len (andBox s c x) xs
-  unfolding andBox orderFrom step6 brought all
-  step (On Start) =
+  step : (c : Course) → FoundBox s (x .at) (x .inner) (x .size) (x .kind) → Waits s c (x .at)
+      → left s len c (x ∷ xs) ≡ left s len (andBox (whole s (x .at)) (waiting s c) c x) xs
+  unfolding andBox orderFrom step6 brought all joinedAt
+  step (On Start) d e =
       strictly Start (Typed (ftypIn (whole s (x .at)))) ftyp refl (spoken (x .kind) .0)
-      (λ p. ap₂ (λ (at : ℕ) (ps : List ℕ). all s (opened s (ftypIn (whole s (x .at))) at) ps)
+      (λ p. ap₂ (λ (at : ℕ) (ps : List ℕ). all s (openedAt s (ftypIn (whole s (x .at))) at) ps)
       (moov-miss x xs (rw (eqb-true (x .kind) ftyp p)))
       (moof-miss x xs (other (x .kind) ftyp refl p)))
-  step (On (Typed f)) =
-      loosely (Typed f) (Headed (opened s f (x .at))) moov refl (spoken (x .kind) .1)
-      (λ p. ap₂ (λ (at : ℕ) (ps : List ℕ). all s (opened s f at) ps) (moov-hit x xs p) (moof-miss x xs (other (x .kind) moov refl p)))
-      (λ q. ap₂ (λ (at : ℕ) (ps : List ℕ). all s (opened s f at) ps) (moov-miss x xs (unspoken (x .kind) q .0)) (moof-miss x xs (unspoken (x .kind) q .1)))
-  step (On (Headed j)) =
+  step (On (Typed f)) d e =
+      loosely (Typed f) (Headed (openedAt s f (x .at))) moov refl (spoken (x .kind) .1)
+      (λ p. ap₂ (λ (at : ℕ) (ps : List ℕ). all s (openedAt s f at) ps) (moov-hit x xs p) (moof-miss x xs (other (x .kind) moov refl p)))
+      (λ q. ap₂ (λ (at : ℕ) (ps : List ℕ). all s (openedAt s f at) ps) (moov-miss x xs (unspoken (x .kind) q .0)) (moof-miss x xs (unspoken (x .kind) q .1)))
+  step (On (Headed j)) d e =
       loosely (Headed j) (Halved j (spotOf x)) moof refl (spoken (x .kind) .2) (λ p. ap (all s j) (moof-hit x xs p))
       (λ q. ap (all s j) (moof-miss x xs (unspoken (x .kind) q .1)))
-  step (On (Halved j m)) =
-      strictly (Halved j m) (Paired (joined s j (m .at))) mdat refl (spoken (x .kind) .3)
-      (λ p. ap (λ (ps : List ℕ). all s (joined s j (m .at)) ps) (moof-miss x xs (other (x .kind) mdat refl p)))
-  step (On (Paired j)) =
+  step (On (Halved j m)) d e =
+      strictly (Halved j m) (Paired (joinedAt s j (m .at))) mdat (rw (e, d .head, d .size)) (spoken (x .kind) .3)
+      (λ p. ap (λ (ps : List ℕ). all s (joinedAt s j (m .at)) ps) (moof-miss x xs (other (x .kind) mdat refl p)))
+  step (On (Paired j)) d e =
       loosely (Paired j) (Halved j (spotOf x)) moof refl (spoken (x .kind) .2) (λ p. ap (all s j) (moof-hit x xs p))
       (λ q. ap (all s j) (moof-miss x xs (unspoken (x .kind) q .1)))
-  step (Broken p) = refl
+  step (Broken p) d e = refl
 
 -- no box more
 over : (s : List ℕ) (len : ℕ) (c : Course) → left s len c [] ≡ courseEnd len c
@@ -219,16 +290,34 @@ over s len (On (Paired j)) = refl
 over s len (Broken p) = refl
 
 -- the course over the boxes that are left comes to what is left
-comes-to : (s : List ℕ) (len : ℕ) (c : Course) (xs : List Box) → courseEnd len (courseFrom s c xs) ≡ left s len c xs
+comes-to : (s : List ℕ) (len at : ℕ) (c : Course) (xs : List Box) → Siblings s at xs → Waits s c at → courseEnd len (courseFrom s c xs) ≡ left s len c xs
 unfolding courseFrom
-comes-to s len c [] = sym (over s len c)
-comes-to s len c (x ∷ xs) = comes-to s len (andBox s c x) xs ∙ sym (step s len x xs c)
+comes-to s len at c [] y e = sym (over s len c)
+comes-to s len at c (x ∷ xs) y e =
+    let d : FoundBox s (x .at) (x .inner) (x .size) (x .kind) = rw (y .0) (y .1) in
+    let own = whole s (x .at) in
+    let next = andBox own (waiting s c) c x in
+    comes-to s len (at + x .size) next xs (y .2) (subst (Waits s next) (ap (λ (p : ℕ). p + x .size) (y .0)) (waits-next s x d own (waiting s c) c))
+    ∙ sym (step s len x xs c d (rw (y .0) e))
 
 -- fragments after a broken rule, and after rules that hold
 all-refused : (s : List ℕ) (n t p : ℕ) (xs : List ℕ) → all s (Refused n t p) xs ≡ Refused n t p
-unfolding all joined
+unfolding all joined joinedAt
 all-refused s n t p [] = refl
 all-refused s n t p (x ∷ xs) = all-refused s n t p xs
+
+-- the first start, unless there is one before
+abbrev firstOr : FirstTick → FirstTick → FirstTick
+firstOr firstTick.Unset b = b
+firstOr (firstTick.Tick t) b = firstTick.Tick t
+
+first-or-none : (a : FirstTick) → a ≡ firstOr a firstTick.Unset
+first-or-none firstTick.Unset = refl
+first-or-none (firstTick.Tick t) = refl
+
+first-or-tick : (a : FirstTick) (n : ℕ) (b : FirstTick) → firstOr (orTick a n) b ≡ firstOr a (firstTick.Tick n)
+first-or-tick firstTick.Unset n b = refl
+first-or-tick (firstTick.Tick t) n b = refl
 
 -- what is known after fragments at places
 unfoldable grownBy : List ℕ → TrackFacts → List ℕ → TrackFacts
@@ -238,16 +327,23 @@ grownBy s f xs =
       mdhd = f .mdhd;
       hdlr = f .hdlr;
       fragments = f .fragments + length xs;
+      start = firstOr (f .start) (firstStart s xs);
       end = lastEnd s (f .header) (f .end) xs;
     }
 
 grown-none : (s : List ℕ) (f : TrackFacts) → f ≡ grownBy s f []
 unfolding grownBy lastEnd
-grown-none s f = ap (λ (n : ℕ). record { header = f .header; mdhd = f .mdhd; hdlr = f .hdlr; fragments = n; end = f .end }) (omega arith)
+grown-none s f =
+    ap₂ (λ (n : ℕ) (a : FirstTick). record { header = f .header; mdhd = f .mdhd; hdlr = f .hdlr; fragments = n; start = a; end = f .end }) (omega arith)
+    (first-or-none (f .start))
 
-grown-on : (s : List ℕ) (f : TrackFacts) (x : ℕ) (xs : List ℕ) → grownBy s (grown s f x) xs ≡ grownBy s f (x ∷ xs)
-unfolding grownBy grown lastEnd
-grown-on s f x xs = ap (λ (n : ℕ). record { header = f .header; mdhd = f .mdhd; hdlr = f .hdlr; fragments = n; end = lastEnd s (f .header) (End (endAt s (f .header) x)) xs }) (omega arith)
+grown-on : (s : List ℕ) (f : TrackFacts) (x : ℕ) (xs : List ℕ) → grownBy s (grown f (whole s x)) xs ≡ grownBy s f (x ∷ xs)
+unfolding grownBy grown lastEnd startAt endAt
+grown-on s f x xs =
+    ap₂
+    (λ (n : ℕ) (a : FirstTick). record { header = f .header; mdhd = f .mdhd; hdlr = f .hdlr; fragments = n; start = a; end = lastEnd s (f .header) (End (endAt s (f .header) x)) xs })
+    (omega arith)
+    (first-or-tick (f .start) (startAt s x) (firstStart s xs))
 
 behind-rule : (s : List ℕ) (r : Rule) (f : TrackFacts) (xs : List ℕ)
     → all s (Accepted f) xs ≡ judgedBy (rulesOfFragments s (f .header) (f .end) xs) (grownBy s f xs)
@@ -258,11 +354,11 @@ behind-rule s (Breaks n t p) f xs e = all-refused s n t p xs
 
 all-rules : (s : List ℕ) (f : TrackFacts) (xs : List ℕ)
     → all s (Accepted f) xs ≡ judgedBy (rulesOfFragments s (f .header) (f .end) xs) (grownBy s f xs)
-unfolding all judgedBy joined rulesOfFragments grown grownBy lastEnd
+unfolding all judgedBy joined joinedAt rulesOfFragments shapeAt timingAt endAt grown grownBy lastEnd
 all-rules s f [] = ap Accepted (grown-none s f)
 all-rules s f (x ∷ xs) =
     let h = f .header in
-    behind-rule s (shapeAt s h x then timingAt s h (f .end) x) (grown s f x) xs (all-rules s (grown s f x) xs)
+    behind-rule s (shapeAt s h x then timingAt s h (f .end) x) (grown f (whole s x)) xs (all-rules s (grown f (whole s x)) xs)
     ∙ ap₂ judgedBy
     (then-assoc (shapeAt s h x) (timingAt s h (f .end) x) (rulesOfFragments s h (End (endAt s h x)) xs))
     (grown-on s f x xs)
@@ -276,11 +372,11 @@ first-box-at s = by (boxes s 0) (boxes-siblings s 0)
     by (x ∷ xs) h = h .0
 
 -- what is known by the header and every fragment is what is known of the track
-all-known : (s : List ℕ) → grownBy s (openedFacts s (moovAt s)) (fragments s) ≡ factsOf s
+all-known : (s : List ℕ) → grownBy s (openedFacts (moovAt s) (moovOf s)) (fragments s) ≡ factsOf s
 unfolding grownBy openedFacts factsOf fragmentCount moovOf headerOf mdhdAt hdlrAt
 all-known s =
     ap
-    (λ (n : ℕ). record { header = headerOf s; mdhd = mdhdAt s; hdlr = hdlrAt s; fragments = n; end = lastEnd s (headerOf s) Unset (fragments s) })
+    (λ (n : ℕ). record { header = headerOf s; mdhd = mdhdAt s; hdlr = hdlrAt s; fragments = n; start = firstStart s (fragments s); end = lastEnd s (headerOf s) Unset (fragments s) })
     (zero-add (length (fragments s)))
 
 -- the whole course is rule 6, then the header's rules, then the fragments'
@@ -288,8 +384,8 @@ pub one-pass : (s : List ℕ)
     → courseOf s ≡ judgedBy (rule6 s then rulesOfHeader s then rulesOfFragments s (headerOf s) Unset (fragments s)) (factsOf s)
 unfolding courseOf rule6 moovAt moovOf ftypOf headerOf fragmentsFrom rulesOfHeader opened openedFacts
 one-pass s =
-    comes-to s (length s) (On Start) (boxes s 0)
-    ∙ ap (λ (at : ℕ). behind (rule6 s) (all s (opened s (ftypIn (whole s at)) (moovAt s)) (fragments s))) (first-box-at s)
-    ∙ ap (behind (rule6 s)) (behind-rule s (rulesOfHeader s) (openedFacts s (moovAt s)) (fragments s) (all-rules s _ (fragments s)))
+    comes-to s (length s) 0 (On Start) (boxes s 0) (boxes-siblings s 0) tt
+    ∙ ap (λ (at : ℕ). behind (rule6 s) (all s (openedAt s (ftypIn (whole s at)) (moovAt s)) (fragments s))) (first-box-at s)
+    ∙ ap (behind (rule6 s)) (behind-rule s (rulesOfHeader s) (openedFacts (moovAt s) (moovOf s)) (fragments s) (all-rules s _ (fragments s)))
     ∙ ap (λ (f : TrackFacts). behind (rule6 s) (judgedBy (rulesOfHeader s then rulesOfFragments s (headerOf s) Unset (fragments s)) f)) (all-known s)
     ∙ behind-then (rule6 s) (rulesOfHeader s then rulesOfFragments s (headerOf s) Unset (fragments s)) (factsOf s)

@@ -73,12 +73,15 @@ DataBox s x =
     (kindOf s (mdatAt s x) ≡ mdat) × (headOf s (mdatAt s x) ≤ sizeOf s (mdatAt s x)) × (mdatAt s x + sizeOf s (mdatAt s x) ≤ length s)
 
 -- a `moof`'s data box begins where the `moof` ends
-pub mdat-at : (s : List ℕ) (x : ℕ) → sizeOf s x ≤ length s - x → mdatAt s x ≡ x + sizeOf s x
+mdat-at : (s : List ℕ) (x : ℕ) → sizeOf s x ≤ length s - x → mdatAt s x ≡ x + sizeOf s x
 unfolding mdatAt whole
 mdat-at s x h =
     ap (λ (n : ℕ). x + n)
     (let e : length (take (sizeOf s x) (drop x s)) ≡ min (sizeOf s x) (length (drop x s)) = length-take (sizeOf s x) (drop x s) in
     omega (arith, e, length-drop x s))
+
+pub mdat-next : (s : List ℕ) {at h z k : ℕ} → FoundBox s at h z k → mdatAt s at ≡ at + z
+mdat-next s {at} d = mdat-at s at (omega (arith, d .size, d .fits)) ∙ ap (λ (n : ℕ). at + n) (d .size)
 
 -- where an `mdat` is awaited there is one
 awaited : (s : List ℕ) (len at : ℕ) (xs : List Box) → Siblings s at xs → orderFrom len Halved xs ≡ Holds
@@ -110,7 +113,7 @@ in-order s len at g (x ∷ xs) y h =
 
     here : orderFrom len Halved xs ≡ Holds → DataBox s (x .at)
     here r =
-        let m : mdatAt s (x .at) ≡ at + x .size = rw (y .0) (mdat-at s at (omega (arith, b .size, b .fits)) ∙ ap (λ (n : ℕ). at + n) (b .size)) in
+        let m : mdatAt s (x .at) ≡ at + x .size = rw (y .0) (mdat-next s b) in
         rw m (awaited s len (at + x .size) xs (y .2) r)
 
     go : (p : Stepped) → step6 g (x .kind) ≡ p

@@ -15,6 +15,8 @@ use Rattle.rules.specs.Header.{headerRules, ftypIn, headerIn}
 use Rattle.rules.specs.Fragment.{shape, timing, startOf, endOf}
 use Rattle.rules.specs.declared.Path.the-variants.{Top}
 use Rattle.rules.specs.declared.Entry.the-variants.{One}
+use Rattle.rules.specs.declared.FirstTick.{FirstTick}
+use Rattle.rules.specs.declared.FirstTick.the-variants as firstTick
 use Rattle.rules.specs.declared.Previous.{Previous}
 use Rattle.rules.specs.declared.Previous.the-variants.{Unset, End}
 use Rattle.rules.specs.declared.Rule.{Rule}
@@ -93,6 +95,11 @@ fragmentCount s = length (fragments s)
 
 unfoldable pub timescale : List ℕ → ℕ
 timescale s = headerOf s .timescale
+
+-- the start of the first of fragments at places
+abbrev pub firstStart : List ℕ → List ℕ → FirstTick
+firstStart s [] = firstTick.Unset
+firstStart s (x ∷ xs) = firstTick.Tick (startAt s x)
 
 -- the end of the last of fragments at places, after an end before them
 unfoldable pub lastEnd : List ℕ → Header → Previous → List ℕ → Previous

@@ -63,6 +63,12 @@ pub enum Ftyp {
     Wrong,
 }
 
+// The start of the first fragment: unset before it.
+pub enum FirstTick {
+    Unset,
+    Tick(u64),
+}
+
 // The end of the fragment before: unset before the first.
 pub enum Previous {
     Unset,
@@ -127,12 +133,14 @@ pub struct Header {
     pub defaults: Defaults,
 }
 
-// What is known of a track: what its header tells, where `mdhd` and `hdlr` stand in it, the number of its fragments and their last end.
+// What is known of a track: what its header tells, where `mdhd` and `hdlr` stand in it, the number of its fragments, their first start and
+// their last end.
 pub struct TrackFacts {
     pub header: Header,
     pub mdhd: u64,
     pub hdlr: u64,
     pub fragments: u64,
+    pub start: FirstTick,
     pub end: Previous,
 }
 

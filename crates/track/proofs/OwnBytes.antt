@@ -9,9 +9,11 @@ use lib.ListN.{length, take, drop, length-take, length-drop}
 use lib.Dec.{eqb}
 use Rattle.numbers.specs.Numbers.{be4, be8, when}
 use Rattle.numbers.proofs.Bounds.{Reads, reads4, reads8, in-take, in-drop}
+use Rattle.rules.specs.Limits.{byteLimit}
 use Rattle.rules.specs.Boxes.{headOf, sizeOf, whole}
 use Rattle.boxes.specs.Stands.{Stands, WholeBox}
 use Rattle.rules.specs.declared.Spot.{Spot}
+use Rattle.track.specs.Course.{Held}
 
 module _ (s : List ℕ) (b : Spot) (d : Stands s b) (e : ℕ) (q : b .at + b .size ≡ e) where
   -- they are the box's bytes
@@ -44,4 +46,17 @@ module _ (s : List ℕ) (b : Spot) (d : Stands s b) (e : ℕ) (q : b .at + b .si
         high = d .high;
         holds = omega (arith, own-length, d .holds);
         fits = omega arith;
+      }
+
+  -- so it is held
+  pub own-held : length s ≤ byteLimit → (k : ℕ) → Held (take (e - b .at) (drop (b .at) s)) b k
+  own-held h k =
+      record {
+        place = omega (arith, d .fits);
+        low = d .low;
+        high = d .high;
+        holds = d .holds;
+        small = omega (arith, own-length, d .fits);
+        of-ftyp = λ _. own-whole;
+        of-moov = λ _. own-whole;
       }

@@ -1,15 +1,13 @@
 // One pass over the top level: what a track has come to after some of its boxes.
 ghost use mathlib.Core.Path.{_≡_};
-ghost use Prim.Native.Nat.{_+_, _≤_};
+ghost use Prim.Native.Nat.{_-_, _≤_};
 ghost use lib.ListN.{length};
 ghost use Rattle.rules.specs.Limits.{byteLimit};
-ghost use Rattle.rules.specs.Boxes.{whole};
 ghost use Rattle.rules.specs.Order.{ordered, awaits, step6};
-ghost use Rattle.rules.specs.Header.{ftypIn};
-ghost use Rattle.rules.specs.Course.{opened, joined, andBox, courseEnd};
+ghost use Rattle.rules.specs.Course.{opened, orTick, joined, andBox, courseEnd};
 ghost use Rattle.rules.specs.declared.Judged.the-variants.{Accepted, Refused};
-ghost use Rattle.boxes.specs.Stands.{Stands};
-ghost use Rattle.track.specs.Course.{boxOf, FewFragments, CourseFits, Stops, saysPasses};
+ghost use Rattle.boxes.specs.Stands.{WholeBox};
+ghost use Rattle.track.specs.Course.{boxOf, FewFragments, CourseFits, Held, Stops, saysPasses, waitsFrom};
 use boxes::kinds::FTYP;
 use boxes::kinds::MDAT;
 use boxes::kinds::MOOF;
@@ -17,6 +15,7 @@ use boxes::kinds::MOOV;
 use fragment::Fragment;
 use header::HeaderAnswer;
 use rules::Course;
+use rules::FirstTick;
 use rules::Ftyp;
 use rules::Judged;
 use rules::Previous;
@@ -75,25 +74,13 @@ fn step6(stage: Stage, kind: u32) -> Stepped
     }
 }
 
-// What `ftyp` tells.
-fn typed(s: &[u8], b: Spot) -> Ftyp
-    requires { ⌜ Stands (now s) b ⌝ }
-    ensures { λ r. ⌜ r ≡ ftypIn (whole (now (s .entry)) (b .at)) ⌝ }
+// `moov`, by its bytes, after `ftyp`: the header's rules.
+fn opened(own: &[u8], f: Ftyp, b: Spot) -> Judged
+    requires { ⌜ WholeBox (now own) (b .head) × (length (now own) ≤ byteLimit) × (b .at ≤ byteLimit) ⌝ }
+    ensures { λ r. ⌜ r ≡ opened f (b .at) (now (own .entry)) ⌝ }
 {
-    let at = b.at;
-    let end = at + b.size;
-    header::ftyp::read_ftyp(&s[at..end], b.head)
-}
-
-// `moov`, after `ftyp`: the header's rules.
-fn opened(s: &[u8], f: Ftyp, b: Spot) -> Judged
-    requires { ⌜ Stands (now s) b × (length (now s) ≤ byteLimit) ⌝ }
-    ensures { λ r. ⌜ r ≡ opened (now (s .entry)) f (b .at) ⌝ }
-{
-    let at = b.at;
-    let end = at + b.size;
-    let base = at as u64;
-    match header::check_header(f, &s[at..end], b.head) {
+    let base = b.at as u64;
+    match header::check_header(f, own, b.head) {
         HeaderAnswer::Good(x) => {
             let header = x.header;
             Judged::Accepted(TrackFacts {
@@ -101,6 +88,7 @@ fn opened(s: &[u8], f: Ftyp, b: Spot) -> Judged
                 mdhd: base + x.mdhd as u64,
                 hdlr: base + x.hdlr as u64,
                 fragments: 0,
+                start: FirstTick::Unset,
                 end: Previous::Unset,
             })
         }
@@ -117,48 +105,54 @@ fn opened(s: &[u8], f: Ftyp, b: Spot) -> Judged
     }
 }
 
-// A `moof` and its `mdat`, after rules that hold: the fragment's rules.
-fn and_fragment(s: &[u8], f: TrackFacts, moof: Spot, mdat: Spot) -> Judged
-    requires { ⌜ Stands (now s) moof × Stands (now s) mdat × (moof .at + moof .size ≡ mdat .at) ⌝ }
-    requires { ⌜ (length (now s) ≤ byteLimit) × (f .fragments ≤ mdat .at) ⌝ }
-    ensures { λ r. ⌜ r ≡ joined (now (s .entry)) (Accepted f) (moof .at) ⌝ }
+// The first start, with one start more.
+fn or_tick(first: FirstTick, start: u64) -> FirstTick
+    ensures { λ r. ⌜ r ≡ orTick first start ⌝ }
 {
-    let at = moof.at;
-    let end = mdat.at;
+    match first {
+        FirstTick::Unset => FirstTick::Tick(start),
+        FirstTick::Tick(t) => FirstTick::Tick(t),
+    }
+}
+
+// A `moof`, by its bytes, and its `mdat`, after rules that hold: the fragment's rules.
+fn and_fragment(moof: &[u8], f: TrackFacts, m: Spot, mdat: Spot) -> Judged
+    requires { ⌜ WholeBox (now moof) (m .head) × (length (now moof) ≤ byteLimit) × (m .at ≤ byteLimit) ⌝ }
+    requires { ⌜ (mdat .head ≤ 16) × (mdat .head ≤ mdat .size) × (f .fragments ≤ byteLimit) ⌝ }
+    ensures { λ r. ⌜ r ≡ joined (Accepted f) (m .at) (now (moof .entry)) (mdat .head) (mdat .size - mdat .head) ⌝ }
+{
     let header = f.header;
+    let first = f.start;
     let prev = f.end;
     let payload = (mdat.size - mdat.head) as u64;
-    match fragment::check_fragment(
-        &s[at..end],
-        moof.head,
-        mdat.head as u64,
-        payload,
-        header,
-        prev,
-    ) {
-        Fragment::Good(x) => Judged::Accepted(TrackFacts {
-            header,
-            mdhd: f.mdhd,
-            hdlr: f.hdlr,
-            fragments: f.fragments + 1,
-            end: Previous::End(x.end),
-        }),
+    match fragment::check_fragment(moof, m.head, mdat.head as u64, payload, header, prev) {
+        Fragment::Good(x) => {
+            let start = or_tick(first, x.start);
+            Judged::Accepted(TrackFacts {
+                header,
+                mdhd: f.mdhd,
+                hdlr: f.hdlr,
+                fragments: f.fragments + 1,
+                start,
+                end: Previous::End(x.end),
+            })
+        }
         Fragment::Refused { number, place } => Judged::Refused {
             number,
             track: 0,
-            place: at as u64 + place,
+            place: m.at as u64 + place,
         },
     }
 }
 
 // A `moof` and its `mdat`: the fragment's rules, unless one was broken before.
-fn joined(s: &[u8], sofar: Judged, moof: Spot, mdat: Spot) -> Judged
-    requires { ⌜ Stands (now s) moof × Stands (now s) mdat × (moof .at + moof .size ≡ mdat .at) ⌝ }
-    requires { ⌜ (length (now s) ≤ byteLimit) × FewFragments sofar (mdat .at) ⌝ }
-    ensures { λ r. ⌜ r ≡ joined (now (s .entry)) sofar (moof .at) ⌝ }
+fn joined(moof: &[u8], sofar: Judged, m: Spot, mdat: Spot) -> Judged
+    requires { ⌜ WholeBox (now moof) (m .head) × (length (now moof) ≤ byteLimit) × (m .at ≤ byteLimit) ⌝ }
+    requires { ⌜ (mdat .head ≤ 16) × (mdat .head ≤ mdat .size) × FewFragments sofar byteLimit ⌝ }
+    ensures { λ r. ⌜ r ≡ joined sofar (m .at) (now (moof .entry)) (mdat .head) (mdat .size - mdat .head) ⌝ }
 {
     match sofar {
-        Judged::Accepted(f) => and_fragment(s, f, moof, mdat),
+        Judged::Accepted(f) => and_fragment(moof, f, m, mdat),
         Judged::Refused {
             number,
             track,
@@ -187,10 +181,27 @@ pub fn passes(course: Course, kind: u32) -> bool
     }
 }
 
-// One box more, which is not passed over: rule 6 tells whether it may stand there, and then it brings what its stage awaits.
-pub fn and_box(s: &[u8], course: Course, b: Spot, kind: u32) -> Course
-    requires { ⌜ CourseFits (now s) course (b .at) × Stands (now s) b × (length (now s) ≤ byteLimit) × Stops course kind ⌝ }
-    ensures { λ r. ⌜ r ≡ andBox (now (s .entry)) course (boxOf b kind) ⌝ }
+// Where the `moof` that waits before a place begins; the place itself where none waits.
+pub fn waits_from(course: Course, at: usize) -> usize
+    ensures { λ r. ⌜ r ≡ waitsFrom course at ⌝ }
+{
+    match course {
+        Course::Broken(_) => at,
+        Course::On(c) => match c {
+            Reached::Start => at,
+            Reached::Typed(_) => at,
+            Reached::Headed(_) => at,
+            Reached::Halved(_, m) => m.at,
+            Reached::Paired(_) => at,
+        },
+    }
+}
+
+// One box more, which is not passed over, by its own bytes and those of the `moof` that waits: rule 6 tells whether it may stand there, and then it
+// brings what its stage awaits. Of the own bytes only those of `ftyp` and `moov` are looked at.
+pub fn and_box(own: &[u8], waits: &[u8], course: Course, b: Spot, kind: u32) -> Course
+    requires { ⌜ CourseFits (now waits) course × Held (now own) b kind × Stops course kind ⌝ }
+    ensures { λ r. ⌜ r ≡ andBox (now (own .entry)) (now (waits .entry)) course (boxOf b kind) ⌝ }
 {
     match course {
         Course::Broken(_) => course,
@@ -199,13 +210,13 @@ pub fn and_box(s: &[u8], course: Course, b: Spot, kind: u32) -> Course
                 let Stepped::To(_) = step6(Stage::Start, kind) else {
                     return Course::Broken(b.at);
                 };
-                Course::On(Reached::Typed(typed(s, b)))
+                Course::On(Reached::Typed(header::ftyp::read_ftyp(own, b.head)))
             }
             Reached::Typed(f) => {
                 let Stepped::To(_) = step6(Stage::Typed, kind) else {
                     return Course::Broken(b.at);
                 };
-                Course::On(Reached::Headed(opened(s, f, b)))
+                Course::On(Reached::Headed(opened(own, f, b)))
             }
             Reached::Headed(j) => {
                 let Stepped::To(_) = step6(Stage::Headed, kind) else {
@@ -213,11 +224,11 @@ pub fn and_box(s: &[u8], course: Course, b: Spot, kind: u32) -> Course
                 };
                 Course::On(Reached::Halved(j, b))
             }
-            Reached::Halved(j, moof) => {
+            Reached::Halved(j, m) => {
                 let Stepped::To(_) = step6(Stage::Halved, kind) else {
                     return Course::Broken(b.at);
                 };
-                Course::On(Reached::Paired(joined(s, j, moof, b)))
+                Course::On(Reached::Paired(joined(waits, j, m, b)))
             }
             Reached::Paired(j) => {
                 let Stepped::To(_) = step6(Stage::Paired, kind) else {

@@ -46,10 +46,13 @@ pub fn judge(s: &[u8]) -> Judged
                 kind,
                 boxes,
             } => {
+                let next = at + size;
                 if !course::passes(course, kind) {
-                    course = course::and_box(s, course, Spot { at, head, size }, kind);
+                    let from = course::waits_from(course, at);
+                    let b = Spot { at, head, size };
+                    course = course::and_box(&s[at..next], &s[from..at], course, b, kind);
                 }
-                at += size;
+                at = next;
                 count = boxes;
             }
             Step::Nothing => {

@@ -7,7 +7,7 @@ use Rattle.track.proofs.course.joined.Tie as tie
 and-fragment-requires : tie.Need-and-fragment-requires
 and-fragment-requires c κs =
     let p = c .before .before .before .before .pre in
-    (p .0, (p .1 .0, rw (c .before .sofar .given .1) at (p .1 .1)))
+    (p .0, (p .1 .0, p .1 .1, rw (c .before .sofar .given .1) at (p .1 .2)))
 
 returns : tie.Need-returns
 returns c = rw (c .before .before .sofar .given .1) (c .and-fragment .ensures)
