@@ -11,7 +11,7 @@ LIBRARY := $(or $(FLANGEMINT_LIB_DIR),target/native)
 ARCHIVE := $(if $(FLANGEMINT_LIB_DIR),,archive)
 
 .DEFAULT_GOAL := help
-.PHONY: help check test ground fmt archive cli test-cli c-check sentences python-test test-scripts trials stack bench \
+.PHONY: help check test ground fmt archive cli test-cli c-check sentences python-test test-scripts trials stack scribble bench \
     slowest fuzz samples expected vectors readme report-test names
 
 help: ## this list
@@ -40,10 +40,11 @@ cli: ## builds the command, which ./flangemint runs (cargo)
 test-cli: archive ## the command's own tests (cargo)
 	tools/command test
 
-c-check: $(ARCHIVE) sentences ## c/check.c against header and library, on samples (a C and a C++ compiler, python3)
+c-check: $(ARCHIVE) sentences ## the programs of c/ against header and library, on samples (a C and a C++ compiler, python3)
 	$(CC) -std=c99 $(STRICT) c/check.c $(LIBRARY)/libflangemint.a -o target/c-check
+	$(CC) -std=c99 $(STRICT) c/stream.c $(LIBRARY)/libflangemint.a -o target/c-stream
 	$(CXX) -std=c++98 $(STRICT) -fsyntax-only -x c++ include/flangemint.h
-	tools/test-c target/c-check
+	tools/test-c target/c-check target/c-stream
 
 sentences: ## flangemint_sentence against docs/REFUSALS.md (a C compiler, python3)
 	CC='$(CC)' tools/sentences check
@@ -55,7 +56,7 @@ python-test: archive ## the Python module, its page and its tests (python3)
 	PYTHONPATH=python python3 -B -m doctest python/README.md python/flangemint.py
 	PYTHONPATH=python python3 -B -m unittest --quiet python/test_flangemint.py
 
-test-scripts: ## ./intake, ./pack and ./flangemint as they are called: statuses, streams, builds
+test-scripts: ## ./intake, ./pack, ./stream and ./flangemint as they are called: statuses, streams, builds
 	tools/test-scripts
 
 trials: $(ARCHIVE) ## the proved code against the Rust reference, CASES a job (cargo)
@@ -63,6 +64,9 @@ trials: $(ARCHIVE) ## the proved code against the Rust reference, CASES a job (c
 
 stack: $(ARCHIVE) ## every exported function on its worst inputs in 64 KiB (cargo)
 	$(TRIALS) stack
+
+scribble: $(ARCHIVE) ## a track in pieces with a spoilt memory: no fault, CASES of them (cargo)
+	$(TRIALS) scribble --seed $(SEED) --cases $(CASES)
 
 bench: $(ARCHIVE) ## time beside the Rust reference (cargo)
 	$(TRIALS) bench
@@ -96,3 +100,5 @@ vectors: ## writes the gate's cases anew: the reference's, the samples', the fuz
 	rust/vectors/print-cases
 	cat rust/vectors/print-cases.bin >> crates/vectors/stdin
 	cat rust/vectors/print-expected.txt >> crates/vectors/stdout
+	cat rust/vectors/stream-cases.bin >> crates/vectors/stdin
+	cat rust/vectors/stream-expected.txt >> crates/vectors/stdout

@@ -39,7 +39,8 @@ const char *flangemint_sentence(uint64_t number) {
         "The set mixes kinds, such as vide and soun.",
         "Ticks of this track have another length.",
         "This track has fewer or more fragments.",
-        "Both tracks have equally many fragments, but one starts or ends at another tick."
+        "Both tracks have equally many fragments, but one starts or ends at another tick.",
+        "A ftyp, moov or moof at the top level declares over 32,768 bytes."
     };
     return number < sizeof sentences / sizeof *sentences ? sentences[number] : "No rule has this number.";
 }

@@ -1,8 +1,8 @@
 /*
  * Flangemint: checks of CMAF tracks and switching sets over memory that the caller lends.
  *
- * Each function looks at the `len` bytes at `data`, may write the front of the `room` numbers
- * at `table`, and always writes all five numbers of `verdict`:
+ * Each of the three jobs (index, track, set) looks at the `len` bytes at `data`, may write the
+ * front of the `room` numbers at `table`, and always writes all five numbers of `verdict`:
  *
  *   verdict[0]  number     0 where every rule holds, else the first broken rule (below)
  *   verdict[1]  track      of a set, the track that breaks it, counted from 0; else 0.
@@ -15,6 +15,8 @@
  * On acceptance the first numbers of `table` are written and nothing after them: four a box for
  * the index (offset, whole size, type as a number, depth), count + 1 boundaries in ticks for a
  * track or a set. On a refusal `table` is as it was.
+ *
+ * A track that arrives in pieces has a form of its own, struct flangemint_pieces below.
  *
  * No function allocates, keeps a pointer, reads outside its arguments or fails to return.
  * Lengths may be 0; no pointer may be null, and `data`, `table` and `verdict` must not overlap.
@@ -38,6 +40,7 @@ extern "C" {
 #define FLANGEMINT_MAX_BYTES 1073741824 /* of a slice, a track or a bundle: rule 1 */
 #define FLANGEMINT_MAX_BOXES 4096       /* of a slice: rule 5 */
 #define FLANGEMINT_MAX_TRACKS 16        /* of a bundle: rule 24 */
+#define FLANGEMINT_MAX_GATHERED 32768   /* of a ftyp, moov or moof of a track in pieces: rule 29 */
 
 /*
  * How many numbers a table needs so that it is never too short. The index has four a box. Of an accepted
@@ -79,8 +82,12 @@ enum flangemint_number {
     FLANGEMINT_HANDLER_DIFFERS = 25,    /* handler differs from track 0: hdlr */
     FLANGEMINT_TIMESCALE_DIFFERS = 26,  /* timescale differs from track 0: mdhd */
     FLANGEMINT_FRAGMENTS_DIFFER = 27,   /* number of fragments differs from track 0: the track's length */
-    FLANGEMINT_BOUNDARY_DIFFERS = 28    /* a boundary differs from track 0: moof of that fragment, or of the last */
+    FLANGEMINT_BOUNDARY_DIFFERS = 28,   /* a boundary differs from track 0: moof of that fragment, or of the last */
+    FLANGEMINT_LARGE_BOX = 29           /* in pieces: top-level ftyp, moov or moof over 32,768 bytes: the box */
 };
+
+/* No verdict: the pieces were never started, or something else wrote over them. No rule has this number. */
+#define FLANGEMINT_UNSTARTED ((uint64_t)-1)
 
 /* Lists the boxes of a slice: numbers 0 to 5 and 23. */
 void flangemint_index(const uint8_t *data, size_t len, uint64_t *table, size_t room, uint64_t verdict[5]);
@@ -128,6 +135,69 @@ static inline struct flangemint_verdict flangemint_check_set(const uint8_t *data
     uint64_t verdict[5];
     flangemint_set(data, len, table, room, verdict);
     return flangemint_named(verdict);
+}
+
+/*
+ * A track that arrives in pieces. Start, feed every piece in order, finish; however the bytes are cut, the answer is
+ * the same. It is that of flangemint_track for all the bytes since the start, but that the table and
+ * FLANGEMINT_ROOM are left out and FLANGEMINT_LARGE_BOX is there: numbers 0 to 22 and 29.
+ *
+ *   answer[0..4]  number, track (0), place, count (fragments), timescale, as in a verdict
+ *   answer[5]     first    on acceptance the first boundary in ticks; else 0
+ *   answer[6]     last     on acceptance the last one; else 0
+ *
+ * The struct is all the memory that it takes: 32,976 bytes, wherever the caller puts them. Nothing of a data box is
+ * kept. There is no pointer in it: it may be copied and moved, a copy goes on by itself, and it may be written to disk
+ * and read back by the same library on the same machine. What stands in it is not for the caller to change.
+ *
+ * A piece may be empty; `data` is not null even then, and does not overlap the struct. Once more than
+ * FLANGEMINT_MAX_BYTES were fed the answer is FLANGEMINT_TOO_LONG for good, and feeding may stop.
+ * Start may be called at any time, and forgets what was fed before. Finish changes nothing: feeding can go on after
+ * it, and the next finish answers for all. One thread at a time feeds a struct; others may feed others.
+ *
+ * A struct that was never started, or that was written over, does no harm. Where that is noticed the answer's number
+ * is FLANGEMINT_UNSTARTED, and stays so whatever is fed. Not every change is noticed: what was written over may answer
+ * anything, an acceptance too.
+ */
+struct flangemint_pieces {
+    uint64_t numbers[24];
+    uint8_t head[16];
+    uint8_t kept[FLANGEMINT_MAX_GATHERED];
+};
+
+/* The exported functions, which take the parts of the struct; the three after them take the struct. */
+void flangemint_pieces_begin(uint64_t numbers[24]);
+void flangemint_pieces_take(uint64_t numbers[24], uint8_t head[16], uint8_t kept[FLANGEMINT_MAX_GATHERED],
+                            const uint8_t *data, size_t len);
+void flangemint_pieces_answer(const uint64_t numbers[24], const uint8_t head[16],
+                              const uint8_t kept[FLANGEMINT_MAX_GATHERED], uint64_t answer[7]);
+
+static inline void flangemint_pieces_start(struct flangemint_pieces *pieces) {
+    flangemint_pieces_begin(pieces->numbers);
+}
+
+static inline void flangemint_pieces_feed(struct flangemint_pieces *pieces, const uint8_t *data, size_t len) {
+    flangemint_pieces_take(pieces->numbers, pieces->head, pieces->kept, data, len);
+}
+
+static inline void flangemint_pieces_finish(const struct flangemint_pieces *pieces, uint64_t answer[7]) {
+    flangemint_pieces_answer(pieces->numbers, pieces->head, pieces->kept, answer);
+}
+
+/* The seven numbers by name, and finish with them as answer. */
+struct flangemint_answer {
+    struct flangemint_verdict verdict;
+    uint64_t first, last;
+};
+
+static inline struct flangemint_answer flangemint_check_pieces(const struct flangemint_pieces *pieces) {
+    uint64_t answer[7];
+    struct flangemint_answer named;
+    flangemint_pieces_finish(pieces, answer);
+    named.verdict = flangemint_named(answer);
+    named.first = answer[5];
+    named.last = answer[6];
+    return named;
 }
 
 #ifdef __cplusplus

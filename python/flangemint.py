@@ -4,6 +4,8 @@
 Verdict(number=6, track=0, place=0, count=0, timescale=0, boundaries=())
 >>> boxes(b"\\0\\0\\0\\x08free")
 [Box(offset=0, size=8, type='free', depth=0)]
+>>> Pieces().finish().verdict.number
+6
 
 `data` is bytes, a bytearray, a memoryview, an mmap or another contiguous buffer. None of them is copied, but for the
 tracks of a set, which are put one behind the other. Nobody may change the bytes during a call, nor shorten a mapped
@@ -13,6 +15,7 @@ The library is target/native/libflangemint.so of the repository that this file i
 the file that FLANGEMINT_LIBRARY names.
 """
 
+import contextlib
 import ctypes
 import functools
 import mmap
@@ -20,12 +23,13 @@ import os
 import pathlib
 from dataclasses import dataclass
 
-__all__ = ["Box", "NotBuilt", "Refused", "Verdict", "boxes", "check_set", "check_track"]
+__all__ = ["Answer", "Box", "NotBuilt", "Pieces", "Refused", "Verdict", "boxes", "check_set", "check_track"]
 __version__ = "0.1.0"
 
 # As in include/flangemint.h, which says how the rooms follow.
 MAX_BYTES = 1073741824
 MAX_BOXES = 4096
+MAX_GATHERED = 32768
 INDEX_ROOM = 4 * MAX_BOXES
 TRACK_ROOM = (MAX_BOXES - 20) // 7 + 1
 
@@ -62,6 +66,15 @@ class Verdict:
         if self.accepted:
             return f"accepted fragments {self.count} timescale {self.timescale}"
         return f"refused {self.number} track {self.track} at {self.place}"
+
+
+@dataclass(frozen=True)
+class Answer:
+    """What a track in pieces is answered with; its verdict has no boundaries but these two."""
+
+    verdict: Verdict  # numbers 0 to 22 and 29
+    first: int  # the first boundary in ticks; 0 on a refusal
+    last: int  # the last boundary in ticks; 0 on a refusal
 
 
 @dataclass(frozen=True)
@@ -123,6 +136,43 @@ def boxes(data):
     return [Box(offset, size, kind.to_bytes(4, "big").decode("latin-1"), depth) for offset, size, kind, depth in rows]
 
 
+class _State(ctypes.Structure):
+    """struct flangemint_pieces."""
+
+    _fields_ = [
+        ("numbers", ctypes.c_uint64 * 24),
+        ("head", ctypes.c_uint8 * 16),
+        ("kept", ctypes.c_uint8 * MAX_GATHERED),
+    ]
+
+
+class Pieces:
+    """A track that arrives in pieces of any length; nothing of a data box is kept. One thread at a time feeds it.
+
+    >>> pieces = Pieces()
+    >>> pieces.feed(b"\\0\\0\\0\\x08fr")
+    >>> pieces.feed(b"ee")
+    >>> print(pieces.finish().verdict)
+    refused 6 track 0 at 0
+    """
+
+    def __init__(self):
+        self._state = _State()
+        _library().flangemint_pieces_begin(self._state.numbers)
+
+    def feed(self, data):
+        """Takes the next bytes; they may be none."""
+        state = self._state
+        with _memory(data) as (start, length):
+            _library().flangemint_pieces_take(state.numbers, state.head, state.kept, start, length)
+
+    def finish(self):
+        """The answer about all the bytes until now. It changes nothing: feeding can go on."""
+        state, answer = self._state, (ctypes.c_uint64 * 7)()
+        _library().flangemint_pieces_answer(state.numbers, state.head, state.kept, answer)
+        return Answer(Verdict(*answer[:5]), *answer[5:])
+
+
 def _checked(name, data):
     """The verdict of the track or the set job, with its boundaries."""
     table = (ctypes.c_uint64 * TRACK_ROOM)()
@@ -151,18 +201,25 @@ class _Buffer(ctypes.Structure):
     ]
 
 
-def _call(name, data, table):
-    """Calls an exported function on the memory of `data` itself, also where that is read-only."""
-    function = getattr(_library(), name)
-    numbers = (ctypes.c_uint64 * 5)()
+@contextlib.contextmanager
+def _memory(data):
+    """Start and length of the memory of `data` itself, also where that is read-only."""
     view = _Buffer()
     python = ctypes.pythonapi
     python.PyObject_GetBuffer(ctypes.py_object(data), ctypes.byref(view), 0)
     try:
         # no pointer may be null, even of a slice that has no bytes
-        function(view.buf or ctypes.addressof(numbers), view.len, table, len(table), numbers)
+        yield view.buf or ctypes.addressof(view), view.len
     finally:
         python.PyBuffer_Release(ctypes.byref(view))
+
+
+def _call(name, data, table):
+    """Calls a job."""
+    function = getattr(_library(), name)
+    numbers = (ctypes.c_uint64 * 5)()
+    with _memory(data) as (start, length):
+        function(start, length, table, len(table), numbers)
     return Verdict(*numbers)
 
 
@@ -175,10 +232,17 @@ def _library():
         raise NotBuilt(f"{path} is not there; `make archive` in the repository builds it")
     try:
         library = ctypes.CDLL(path)
-        for name in ("flangemint_index", "flangemint_track", "flangemint_set"):
-            function = getattr(library, name)
-            function.restype = None
-            function.argtypes = [ctypes.c_void_p, ctypes.c_size_t, ctypes.c_void_p, ctypes.c_size_t, ctypes.c_void_p]
+        memory, length = ctypes.c_void_p, ctypes.c_size_t
+        for name, arguments in (
+            ("index", [memory, length, memory, length, memory]),
+            ("track", [memory, length, memory, length, memory]),
+            ("set", [memory, length, memory, length, memory]),
+            ("pieces_begin", [memory]),
+            ("pieces_take", [memory, memory, memory, memory, length]),
+            ("pieces_answer", [memory, memory, memory, memory]),
+        ):
+            function = getattr(library, f"flangemint_{name}")
+            function.restype, function.argtypes = None, arguments
         library.flangemint_sentence.restype = ctypes.c_char_p
         library.flangemint_sentence.argtypes = [ctypes.c_uint64]
     except (OSError, AttributeError) as error:

@@ -2,6 +2,7 @@
 
 import array
 import concurrent.futures
+import dataclasses
 import mmap
 import os
 import pathlib
@@ -57,6 +58,32 @@ class Module(unittest.TestCase):
                 tried += 1
         self.assertGreater(tried, 20)
 
+    def test_pieces(self):
+        for name, tracks, _ in samples():
+            for track in tracks:
+                whole = flangemint.check_track(track)
+                ends = (whole.boundaries[0], whole.boundaries[-1]) if whole.accepted else (0, 0)
+                wanted = flangemint.Answer(dataclasses.replace(whole, boundaries=()), *ends)
+                for length in (1, 7, 100, 5000, len(track)):
+                    pieces = flangemint.Pieces()
+                    for at in range(0, len(track), length):
+                        pieces.feed(memoryview(track)[at : at + length])
+                        pieces.feed(b"")
+                    self.assertEqual(pieces.finish(), wanted, f"{name} in pieces of {length}")
+                    self.assertEqual(pieces.finish(), wanted, "finish changes nothing")
+        for size, number in ((flangemint.MAX_GATHERED, 4), (flangemint.MAX_GATHERED + 1, 29)):
+            pieces = flangemint.Pieces()
+            pieces.feed(size.to_bytes(4, "big") + b"moov")
+            self.assertEqual(pieces.finish(), flangemint.Answer(flangemint.Verdict(number, 0, 0, 0, 0), 0, 0))
+        for data in ("text", 7, None):
+            self.assertRaises(TypeError, pieces.feed, data)
+        with mmap.mmap(-1, flangemint.MAX_BYTES) as longest:
+            pieces = flangemint.Pieces()
+            pieces.feed(longest)
+            self.assertEqual(str(pieces.finish().verdict), "refused 3 track 0 at 0")
+            pieces.feed(b"x")
+            self.assertEqual(str(pieces.finish().verdict), "refused 1 track 0 at 0")
+
     def test_buffers(self):
         track = tracks_of((SAMPLES / "good-aac.bundle").read_bytes())[0]
         wanted, boxes = flangemint.check_track(track), flangemint.boxes(track)
@@ -111,9 +138,9 @@ class Module(unittest.TestCase):
             flangemint.check_track(b"").number = 0
 
     def test_sentences(self):
-        for number in range(29):
+        for number in range(30):
             self.assertRegex(flangemint.Verdict(number, 0, 0, 0, 0).sentence, r"^\w.*\.$")
-        self.assertEqual(flangemint.Verdict(29, 0, 0, 0, 0).sentence, "No rule has this number.")
+        self.assertEqual(flangemint.Verdict(30, 0, 0, 0, 0).sentence, "No rule has this number.")
 
     def test_threads(self):
         cases = [(tracks, text) for _, tracks, text in samples()] * 20
@@ -127,7 +154,7 @@ class Module(unittest.TestCase):
         self.assertEqual(defines["VERSION"], f'"{flangemint.__version__}"')
         numbers = [defines[f"VERSION_{part}"] for part in ("MAJOR", "MINOR", "PATCH")]
         self.assertEqual(".".join(numbers), flangemint.__version__)
-        for name in ("MAX_BYTES", "MAX_BOXES"):
+        for name in ("MAX_BYTES", "MAX_BOXES", "MAX_GATHERED"):
             self.assertEqual(int(defines[name].split()[0]), getattr(flangemint, name))
         for name in ("INDEX_ROOM", "TRACK_ROOM"):
             formula = defines[name].replace("FLANGEMINT_MAX_BOXES", defines["MAX_BOXES"].split()[0]).replace("/", "//")

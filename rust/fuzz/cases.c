@@ -13,6 +13,9 @@
 
 #include "target.h"
 
+/* A track for the program `stream`; here it is a track like any other. */
+enum { STREAM = 4 };
+
 enum { CASE_ROOM = 4096, CASE_BYTES = 65536, CASE_HEAD = 9 };
 
 static uint8_t bytes[HEAD + CASE_BYTES + 1];
@@ -39,6 +42,8 @@ static int split(const char *dir)
     uint8_t head[CASE_HEAD];
     for (unsigned number = 0; fread(head, 1, CASE_HEAD, stdin) == CASE_HEAD; number++) {
         uint32_t room = get4(head + 1), len = get4(head + 5);
+        if (head[0] == STREAM)
+            head[0] = 1;
         if (head[0] > 2 || room > CASE_ROOM || len > CASE_BYTES || fread(bytes + HEAD, 1, len, stdin) != len) {
             fprintf(stderr, "case %u is no case\n", number);
             return 1;

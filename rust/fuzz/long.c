@@ -3,8 +3,9 @@
  *
  *   long INPUT      the input's slice is a good track
  *
- * For each length and each job: bytes that are all 0; one `free` box as long as the slice; the track and a
- * `free` box after it up to the end, alone and as the one record of a bundle. Only what is read takes memory.
+ * For each length and each job, and for a track in pieces: bytes that are all 0; one `free` box as long as the slice;
+ * the track and a `free` box after it up to the end, alone and as the one record of a bundle. Only what is read takes
+ * memory.
  */
 #include <stdint.h>
 #include <stdio.h>
@@ -12,10 +13,12 @@
 #include <string.h>
 #include <sys/mman.h>
 
+#include "flangemint.h"
+#include "pieces.h"
 #include "target.h"
 
 typedef void check(const uint8_t *data, size_t len, uint64_t *table, size_t room, uint64_t *verdict);
-check flangemint_index, flangemint_track, flangemint_set, judge_index, judge_track, judge_set;
+check judge_index, judge_track, judge_set;
 
 enum { ROOM = 256, MOST = 1 << 16, SHAPES = 4 };
 
@@ -70,6 +73,24 @@ static int differ(const char *job, const char *shape, const uint8_t *slice, size
     return other;
 }
 
+static int differ_in_pieces(const char *shape, const uint8_t *slice, size_t len)
+{
+    static uint8_t head[HEADER], kept[KEPT];
+    uint64_t numbers[NUMBERS], answer[ANSWER], whole[ANSWER];
+    flangemint_pieces_begin(numbers);
+    for (size_t at = 0, length; at < len; at += length) {
+        length = len - at < 1 << 20 ? len - at : 1 << 20;
+        flangemint_pieces_take(numbers, head, kept, slice + at, length);
+    }
+    flangemint_pieces_take(numbers, head, kept, slice, 0);
+    flangemint_pieces_answer(numbers, head, kept, answer);
+    judge_pieces_whole(slice, len, whole);
+    int other = memcmp(answer, whole, sizeof whole) != 0;
+    printf("pieces, %s of %zu bytes: number %llu place %llu count %llu%s\n", shape, len, (unsigned long long)answer[0],
+           (unsigned long long)answer[2], (unsigned long long)answer[3], other ? ", DISAGREEMENT" : "");
+    return other;
+}
+
 int main(int count, char **words)
 {
     static uint8_t input[HEAD + MOST];
@@ -96,6 +117,7 @@ int main(int count, char **words)
             shape(which, slice, len, track.slice, track.len);
             for (int job = 0; job < 3; job++)
                 differences += differ(jobs[job].name, shapes[which], slice, len, jobs[job].checker, jobs[job].judge);
+            differences += differ_in_pieces(shapes[which], slice, len);
         }
     return differences == 0 ? 0 : 1;
 }

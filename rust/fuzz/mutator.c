@@ -236,7 +236,7 @@ static void retype(int b)
 /* Another number in one of the first fields of the body: near the old, or one that matters. */
 static void renumber(int b)
 {
-    static const uint64_t good[] = {0, 1, 2, 4, 8, 0x10000, 0x20000, 0x10001, 65536, 65537, 90000, 0x7fffffff, 0x80000000,
+    static const uint64_t good[] = {0, 1, 2, 4, 8, 0x10000, 0x20000, 0x10001, 65536, 65537, 90000, 32768, 32769, 0x7fffffff, 0x80000000,
                                     0xffffffff, 0x301, 0x305, 0xf01, 0x701, 0x205, 0x38};
     struct box box = in.boxes[b];
     size_t fields = (box.size - box.head) / 4;
@@ -293,7 +293,7 @@ static void other_job(void)
         set(HEAD + 2, 4, in.size - HEAD - MARK_AND_LENGTH);
         in.data[0] = 2;
     } else {
-        in.data[0] = (uint8_t)draw(6);
+        in.data[0] = (uint8_t)draw(24);
     }
 }
 
@@ -320,7 +320,7 @@ static void repair_starts(size_t start, size_t end)
 {
     for (int times = 0; times < 4; times++) {
         uint64_t verdict[5];
-        struct split track = {1, 0, 2048, in.data + start, end - start};
+        struct split track = {1, 0, 0, 2048, in.data + start, end - start};
         judged(&track, verdict);
         if (verdict[0] != 19)
             return;
@@ -367,7 +367,7 @@ static void repair(void)
 static void other_room(void)
 {
     uint64_t verdict[5];
-    struct split all = {in.data[0] % 3, 0, 16384, in.data + HEAD, in.size - HEAD};
+    struct split all = {in.data[0] % 3, 0, 0, 16384, in.data + HEAD, in.size - HEAD};
     judged(&all, verdict);
     if (verdict[0] != 0 || draw(4) == 0) {
         set(1, 2, draw(3) == 0 ? draw(16385) : draw(48));

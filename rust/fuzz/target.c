@@ -3,7 +3,8 @@
  *
  * Input: byte 0 says the job (modulo 3: index, track, set) and at which end of its memory the slice
  * stands (by 3, modulo 2); bytes 1 and 2 are the table's length in numbers, big-endian, modulo 16,385;
- * the rest is the slice. The table holds 7 i + 1 at i before the call.
+ * the rest is the slice. The table holds 7 i + 1 at i before the call. A track goes through the form that
+ * takes pieces too (pieces.c), with a memory that is spoilt if byte 0 by 6 is 3 modulo 4.
  *
  * Slice and table each stand in memory of their own, at its end or at its start, with pages around
  * it that nobody may touch. So a read or a write outside ends the run, in an archive that no
@@ -13,14 +14,14 @@
 #include <stdio.h>
 #include <stdlib.h>
 #include <string.h>
-#include <sys/mman.h>
-#include <unistd.h>
 
+#include "flangemint.h"
+#include "lent.h"
+#include "pieces.h"
 #include "target.h"
 
 typedef void check(const uint8_t *data, size_t len, uint64_t *table, size_t room, uint64_t *verdict);
 
-check flangemint_index, flangemint_track, flangemint_set;
 check judge_index, judge_track, judge_set;
 
 enum { JOBS = 3, MOST_ROOM = 16384, MOST_BYTES = 1 << 20, CANARY = 4 };
@@ -33,29 +34,6 @@ static const struct {
     {"track", flangemint_track, judge_track},
     {"set", flangemint_set, judge_set},
 };
-
-/* Memory between two pages that may not be touched; `most` is rounded up to whole pages. */
-struct lent {
-    uint8_t *start;
-    size_t most;
-};
-
-static struct lent lend(size_t most)
-{
-    size_t page = (size_t)sysconf(_SC_PAGESIZE);
-    size_t inside = (most + page - 1) / page * page;
-    uint8_t *all = mmap(NULL, inside + 2 * page, PROT_NONE, MAP_PRIVATE | MAP_ANONYMOUS, -1, 0);
-    if (all == MAP_FAILED || mprotect(all + page, inside, PROT_READ | PROT_WRITE) != 0) {
-        perror("memory for the target");
-        exit(2);
-    }
-    return (struct lent){all + page, inside};
-}
-
-static uint8_t *part(struct lent lent, size_t length, int at_end)
-{
-    return at_end ? lent.start + lent.most - length : lent.start;
-}
 
 static void tell(const char *who, const uint64_t *v, const uint64_t *table, size_t room)
 {
@@ -93,6 +71,7 @@ int split_input(const uint8_t *input, size_t size, struct split *split)
         return 0;
     split->job = input[0] % JOBS;
     split->at_end = input[0] / JOBS % 2 == 0;
+    split->spoilt = input[0] / (2 * JOBS) % 4 == 3;
     split->room = (input[1] * 256u + input[2]) % (MOST_ROOM + 1);
     split->slice = input + HEAD;
     split->len = size - HEAD;
@@ -143,5 +122,7 @@ int LLVMFuzzerTestOneInput(const uint8_t *input, size_t size)
     for (size_t i = 0; i < CANARY; i++)
         if (around[i] != 0xa5a5a5a5a5a5a5a5u || verdict[5 + i] != 0xa5a5a5a5a5a5a5a5u)
             disagree("what stands around the verdict", name, s.len, s.room, verdict, table, expected, other);
+    if (s.job == 1)
+        try_pieces(&s);
     return 0;
 }

@@ -10,6 +10,7 @@ enum { HEAD = 3 };
 struct split {
     unsigned job;
     int at_end;
+    int spoilt; /* the memory of a track in pieces */
     size_t room;
     const uint8_t *slice;
     size_t len;

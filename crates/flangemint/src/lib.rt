@@ -1,8 +1,10 @@
-// The C interface: the three jobs over memory that the caller lends; include/flangemint.h declares them.
+// The C interface: the three jobs, and the form that takes pieces, over memory that the caller lends; include/flangemint.h declares them.
 ghost use mathlib.Core.Path.{_≡_};
 ghost use Rattle.rules.specs.Track.{indexOutcome, trackOutcome};
 ghost use Rattle.rules.specs.Set.{setOutcome};
-ghost use Rattle.flangemint.specs.Gives.{inOrder, Gives};
+ghost use Rattle.pieces.specs.Form.{StartsAnyway, FeedsFrom};
+ghost use Rattle.flangemint.specs.Gives.{inOrder, Gives, answeredIn, GivesAnswer};
+use rules::Answer;
 use rules::Verdict;
 
 // A verdict's five numbers, in the order in which C finds them.
@@ -34,4 +36,55 @@ pub extern "C" fn flangemint_set(bytes: &[u8], table: &mut [u64], verdict: &mut 
     ensures { λ _. ⌜ Gives (setOutcome (now (bytes .entry)) (now (table .entry))) (now (verdict .exit)) (now (table .exit)) ⌝ }
 {
     *verdict = in_order(set::set_job(bytes, table));
+}
+
+// A track in pieces: the first state.
+#[no_mangle]
+pub extern "C" fn flangemint_pieces_begin(numbers: &mut [u64; 24])
+    ensures { λ _. ⌜ StartsAnyway (now (numbers .exit)) ⌝ }
+{
+    pieces::start(numbers);
+}
+
+// A track in pieces: one piece more.
+#[no_mangle]
+pub extern "C" fn flangemint_pieces_take(
+    numbers: &mut [u64; 24],
+    head: &mut [u8; 16],
+    kept: &mut [u8; 32768],
+    piece: &[u8],
+)
+    ensures { λ _. ⌜ FeedsFrom (now (numbers .entry)) (now (head .entry)) (now (kept .entry)) (now (piece .entry))
+        (now (numbers .exit)) (now (head .exit)) (now (kept .exit)) ⌝ }
+{
+    pieces::feed(numbers, head, kept, piece);
+}
+
+// An answer's seven numbers, in the order in which C finds them.
+fn answered_in(a: Answer) -> [u64; 7]
+    ensures { λ r. ⌜ r ≡ answeredIn a ⌝ }
+{
+    let v = a.verdict;
+    [
+        v.number,
+        v.track,
+        v.place,
+        v.count,
+        v.timescale,
+        a.first,
+        a.last,
+    ]
+}
+
+// A track in pieces: the answer.
+#[no_mangle]
+pub extern "C" fn flangemint_pieces_answer(
+    numbers: &[u64; 24],
+    head: &[u8; 16],
+    kept: &[u8; 32768],
+    answer: &mut [u64; 7],
+)
+    ensures { λ _. ⌜ GivesAnswer (now (numbers .entry)) (now (head .entry)) (now (kept .entry)) (now (answer .exit)) ⌝ }
+{
+    *answer = answered_in(pieces::finish(numbers, head, kept));
 }

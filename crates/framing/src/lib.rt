@@ -20,7 +20,7 @@ use rules::Verdict;
 pub const BYTE_LIMIT: usize = 1073741824;
 
 // Rule 5: the boxes of a slice.
-const BOX_LIMIT: usize = 4096;
+pub const BOX_LIMIT: usize = 4096;
 
 // What reading one box comes to: past it, with what its header tells and the boxes so far; no byte left; or a refusal.
 pub enum Step {
@@ -70,7 +70,7 @@ fn passed_to(inner: Framing, head: usize, size: usize, kind: u32) -> Step
 }
 
 // Reads the box at a place of a run whose slice starts at a base, with n boxes before it, and what is inside it.
-fn read_box(s: &[u8], at: usize, path: Path, base: usize, n: usize) -> Step
+pub fn read_box(s: &[u8], at: usize, path: Path, base: usize, n: usize) -> Step
     requires { ⌜ InReach base (now s) ⌝ }
     ensures { λ r. ⌜ Read r (now (s .entry)) at path base n ⌝ }
 {

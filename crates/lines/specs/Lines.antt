@@ -6,6 +6,7 @@ use lib.ListN.{take}
 use Rattle.numbers.specs.Numbers.{when}
 use Rattle.rules.specs.Track.{Outcome}
 use Rattle.rules.specs.declared.Verdict.{Verdict}
+use Rattle.rules.specs.declared.Answer.{Answer}
 
 -- the digit of a number below 10
 abbrev pub digit : ℕ → ℕ
@@ -86,12 +87,20 @@ tickLines (tick ∷ ticks) = tickLine tick ++ tickLines ticks
 unfoldable pub overLine : ℕ → List ℕ
 overLine limit = fieldOf inputOver limit ++ ofBytes ++ lineEnd
 
--- the outcome of the set job on so many tracks: the accepted line and the F + 1 boundaries, one a line; or the refused line
-unfoldable pub setLines : ℕ → Outcome → List ℕ
-setLines tracks o =
-    when (eqb (o .verdict .number) 0)
-    (acceptedLine tracks (o .verdict .count) (o .verdict .timescale) ++ tickLines (take (o .verdict .count + 1) (o .table)))
-    (refusedLine (o .verdict .number) (o .verdict .track) (o .verdict .place))
+-- a verdict on so many tracks: the accepted line and the boundaries given, one a line; or the refused line
+unfoldable pub verdictLines : ℕ → Verdict → List ℕ → List ℕ
+verdictLines tracks v ticks =
+    when (eqb (v .number) 0)
+    (acceptedLine tracks (v .count) (v .timescale) ++ tickLines ticks)
+    (refusedLine (v .number) (v .track) (v .place))
+
+-- the outcome of the set job on so many tracks: its verdict, with the F + 1 boundaries
+abbrev pub setLines : ℕ → Outcome → List ℕ
+setLines tracks o = verdictLines tracks (o .verdict) (take (o .verdict .count + 1) (o .table))
+
+-- the answer of the form that takes pieces: its verdict on one track, with the first boundary and the last
+abbrev pub answerLines : Answer → List ℕ
+answerLines a = verdictLines 1 (a .verdict) (a .first ∷ a .last ∷ [])
 
 -- a verdict's five numbers, a space before each
 unfoldable pub spaced : Verdict → List ℕ

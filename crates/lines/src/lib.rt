@@ -1,11 +1,15 @@
 // What the programs print, as lines in a lent buffer.
+use rules::Answer;
 use rules::Verdict;
 ghost use mathlib.Core.List.{_∷_, []};
 ghost use Prim.Native.Nat.{_+_, _*_, _≤_, _<_};
 ghost use lib.ListN.{length, take};
 ghost use Rattle.lines.specs.Lines.{digit, decimal, fieldOf, lineEnd, spaced, caseLine};
-ghost use Rattle.lines.specs.Lines.{acceptedLine, refusedLine, tickLine, tickLines, overLine, setLines};
+ghost use Rattle.lines.specs.Lines.{acceptedLine, refusedLine, tickLine, tickLines, overLine, verdictLines, setLines, answerLines};
 ghost use Rattle.lines.specs.Puts.{Put, Line};
+
+// The room for an answer's lines: one of at most 128 bytes, and two of at most 21.
+pub const ANSWER_ROOM: usize = 170;
 
 // Puts the digit of a number below 10 at a place, and answers the next place.
 fn put_digit(d: u64, at: usize, out: &mut [u8]) -> usize
@@ -112,16 +116,33 @@ fn tick_lines(t: &[u64], last: u64, at: usize, out: &mut [u8]) -> usize
     next
 }
 
+// The lines of a verdict on so many tracks, with the numbers 0 to last of a table, at the start of the buffer; answers their length.
+fn verdict_lines(tracks: u64, v: Verdict, t: &[u64], last: u64, out: &mut [u8]) -> usize
+    requires { ⌜ 128 + 21 * length (now t) ≤ length (now out) ⌝ }
+    ensures { λ r. ⌜ Line (verdictLines tracks v (take (last + 1) (now (t .entry)))) (now (out .entry)) r (now (out .exit)) ⌝ }
+{
+    if v.number == 0 {
+        let n = accepted_line(tracks, v.count, v.timescale, out);
+        return tick_lines(t, last, n, out);
+    }
+    refused_line(v.number, v.track, v.place, out)
+}
+
 // The lines of the set job's outcome, at the start of the buffer; answers their length.
 pub fn set_lines(tracks: u64, v: Verdict, t: &[u64], out: &mut [u8]) -> usize
     requires { ⌜ 128 + 21 * length (now t) ≤ length (now out) ⌝ }
     ensures { λ r. ⌜ Line (setLines tracks (record { verdict = v; table = now (t .entry) })) (now (out .entry)) r (now (out .exit)) ⌝ }
 {
-    if v.number == 0 {
-        let n = accepted_line(tracks, v.count, v.timescale, out);
-        return tick_lines(t, v.count, n, out);
-    }
-    refused_line(v.number, v.track, v.place, out)
+    verdict_lines(tracks, v, t, v.count, out)
+}
+
+// The lines of the answer of the form that takes pieces, at the start of the buffer; answers their length.
+pub fn answer_lines(a: Answer, out: &mut [u8]) -> usize
+    requires { ⌜ 170 ≤ length (now out) ⌝ }
+    ensures { λ r. ⌜ Line (answerLines a) (now (out .entry)) r (now (out .exit)) ⌝ }
+{
+    let ticks = [a.first, a.last];
+    verdict_lines(1, a.verdict, &ticks, 1, out)
 }
 
 // The line of an input over a limit, at the start of the buffer; answers its length.

@@ -16,19 +16,19 @@ use Rattle.rules.specs.declared.Rule.the-variants.{Holds, Breaks}
 use Rattle.rules.proofs.Boundaries.{boundaries-length}
 use Rattle.rules.proofs.Refusals.{never-0}
 use Rattle.rules.proofs.Caller.{caller-0}
-use Rattle.lines.specs.Lines.{refusedLine, acceptedLine, tickLines, setLines}
+use Rattle.lines.specs.Lines.{refusedLine, acceptedLine, tickLines, verdictLines, setLines}
 use Rattle.printed.specs.Printed.{inputLimit, table, printed}
 use Rattle.printed.proofs.Printed.{held}
 
 -- the lines of a refusal
 refusal-lines : (k n j p : ℕ) (t : List ℕ) → 1 ≤ n → setLines k (refused n j p t) ≡ refusedLine n j p
-unfolding setLines refused
+unfolding verdictLines refused
 refusal-lines k n j p t h = rw (ne-eqb n 0 (λ e. absurd (omega arith)))
 
 -- the lines of an acceptance with F + 1 numbers
 acceptance-lines : (k count scale : ℕ) (numbers t : List ℕ) → length numbers ≡ count + 1
     → setLines k (accepted count scale numbers t) ≡ acceptedLine k count scale ++ tickLines numbers
-unfolding setLines accepted
+unfolding verdictLines accepted
 acceptance-lines k count scale numbers t e =
     ap (λ (l : List ℕ). acceptedLine k count scale ++ tickLines l) (take-at numbers (drop (length numbers) t) (count + 1) e)
 

@@ -15,7 +15,7 @@ use Rattle.rules.specs.Boxes.{Box, boxes, placesOf, headOf, sizeOf, whol
 use Rattle.rules.specs.Counts.{wanted, seen, seenFrom, firstOf}
 use Rattle.rules.specs.Order.{ordered, awaits, step6, onStepped, orderFrom, rule6}
 use Rattle.rules.specs.Header.{ftypIn}
-use Rattle.rules.specs.Track.{moovAt, moovOf, ftypOf, headerOf, fragmentsFrom, fragments, fragmentCount, mdatAt, shapeAt, timingAt, startAt, endAt, firstStart, lastEnd, rulesOfFragments, rulesOfHeader}
+use Rattle.rules.specs.Track.{moovAt, moovOf, ftypOf, headerOf, fragmentsFrom, fragments, fragmentCount, mdatAt, shapeAt, timingAt, startAt, endAt, firstTickOf, lastEnd, rulesOfFragments, rulesOfHeader}
 use Rattle.rules.specs.Set.{mdhdAt, hdlrAt}
 use Rattle.rules.specs.Course.{judgedBy, openedFacts, opened, orTick, grown, joined, stageOf, spotOf, brought, andBox, waiting, courseFrom, courseEnd, courseOf, factsOf}
 use Rattle.rules.specs.declared.Course.{Course}
@@ -307,15 +307,15 @@ all-refused s n t p [] = refl
 all-refused s n t p (x ∷ xs) = all-refused s n t p xs
 
 -- the first start, unless there is one before
-abbrev firstOr : FirstTick → FirstTick → FirstTick
-firstOr firstTick.Unset b = b
-firstOr (firstTick.Tick t) b = firstTick.Tick t
+abbrev tickOr : FirstTick → FirstTick → FirstTick
+tickOr firstTick.Unset b = b
+tickOr (firstTick.Tick t) b = firstTick.Tick t
 
-first-or-none : (a : FirstTick) → a ≡ firstOr a firstTick.Unset
+first-or-none : (a : FirstTick) → a ≡ tickOr a firstTick.Unset
 first-or-none firstTick.Unset = refl
 first-or-none (firstTick.Tick t) = refl
 
-first-or-tick : (a : FirstTick) (n : ℕ) (b : FirstTick) → firstOr (orTick a n) b ≡ firstOr a (firstTick.Tick n)
+first-or-tick : (a : FirstTick) (n : ℕ) (b : FirstTick) → tickOr (orTick a n) b ≡ tickOr a (firstTick.Tick n)
 first-or-tick firstTick.Unset n b = refl
 first-or-tick (firstTick.Tick t) n b = refl
 
@@ -327,7 +327,7 @@ grownBy s f xs =
       mdhd = f .mdhd;
       hdlr = f .hdlr;
       fragments = f .fragments + length xs;
-      start = firstOr (f .start) (firstStart s xs);
+      start = tickOr (f .start) (firstTickOf s xs);
       end = lastEnd s (f .header) (f .end) xs;
     }
 
@@ -343,7 +343,7 @@ grown-on s f x xs =
     ap₂
     (λ (n : ℕ) (a : FirstTick). record { header = f .header; mdhd = f .mdhd; hdlr = f .hdlr; fragments = n; start = a; end = lastEnd s (f .header) (End (endAt s (f .header) x)) xs })
     (omega arith)
-    (first-or-tick (f .start) (startAt s x) (firstStart s xs))
+    (first-or-tick (f .start) (startAt s x) (firstTickOf s xs))
 
 behind-rule : (s : List ℕ) (r : Rule) (f : TrackFacts) (xs : List ℕ)
     → all s (Accepted f) xs ≡ judgedBy (rulesOfFragments s (f .header) (f .end) xs) (grownBy s f xs)
@@ -376,7 +376,7 @@ all-known : (s : List ℕ) → grownBy s (openedFacts (moovAt s) (moovOf s)) (fr
 unfolding grownBy openedFacts factsOf fragmentCount moovOf headerOf mdhdAt hdlrAt
 all-known s =
     ap
-    (λ (n : ℕ). record { header = headerOf s; mdhd = mdhdAt s; hdlr = hdlrAt s; fragments = n; start = firstStart s (fragments s); end = lastEnd s (headerOf s) Unset (fragments s) })
+    (λ (n : ℕ). record { header = headerOf s; mdhd = mdhdAt s; hdlr = hdlrAt s; fragments = n; start = firstTickOf s (fragments s); end = lastEnd s (headerOf s) Unset (fragments s) })
     (zero-add (length (fragments s)))
 
 -- the whole course is rule 6, then the header's rules, then the fragments'

@@ -17,7 +17,7 @@ use Rattle.rules.specs.declared.Rule.the-variants.{Holds}
 use Rattle.rules.proofs.Laws.{all-map, beyond, drop-first, drop-rest, map-at, map-none}
 use Rattle.rules.proofs.Boundaries.{TilesFrom, Tiled, tiles-fewer, tiled, boundaries-length}
 use Rattle.rules.proofs.Stuck.{step-goes, play-step, play-stuck, plan-stuck, play-is-stuck, went-through}
-use Rattle.rules.proofs.Sound.{sound}
+use Rattle.rules.proofs.Sound.{accepted-sound}
 
 -- a track that fits: the rules before timing hold, this timescale, and from the k-th on fragments from a start over these ends
 abbrev pub StreamFits : ℕ → ℕ → ℕ → List ℕ → Stream → Type 0
@@ -150,7 +150,7 @@ chosen-fits : (ss : List (List ℕ)) (scale a : ℕ) (bs : List ℕ) (n i : ℕ)
 unfolding streamOf
 chosen-fits ss scale a bs n i c =
     let s = c .0 in
-    let h : rulesBeforeTiming s ≡ Holds = sound s (c .2) in
+    let h : rulesBeforeTiming s ≡ Holds = accepted-sound s (c .2) in
     let y : Tiled (map (pieceAt s (headerOf s)) (fragments s)) (a ∷ bs) = rw (c .4) at (tiled s (c .2)) in
     (streamOf s, map-at streamOf ss i s (c .1), (ap good h, c .3, tiles-fewer (map (pieceAt s (headerOf s)) (fragments s)) a bs n y))
 

@@ -83,8 +83,8 @@ accepted-keeps s e =
     ((a .0, b .0, c .0, d .0, shaped s (headerOf s) Unset (fragments s) (d .1)), d .1)
 
 -- an accepted track keeps the rules before timing
-pub sound : (s : List ℕ) → ruling s ≡ Holds → rulesBeforeTiming s ≡ Holds
-sound s r = keeps-hold s (accepted-keeps s r .0)
+pub accepted-sound : (s : List ℕ) → ruling s ≡ Holds → rulesBeforeTiming s ≡ Holds
+accepted-sound s r = keeps-hold s (accepted-keeps s r .0)
 
 -- a refusal of fragments under a number that the player meets is one of the shapes, which are then refused alike: timing has other numbers
 shape-refused : (s : List ℕ) (h : Header) (prev : Previous) (xs : List ℕ) (n t p : ℕ) → member n metNumbers ≡ true → rulesOfFragments s h prev xs ≡ Breaks n t p

@@ -11,6 +11,7 @@ use Rattle.rules.specs.Track.{computedTrack}
 use Rattle.rules.specs.Bundle.{computedBundle}
 use Rattle.rules.specs.Set.{computedSet}
 use Rattle.rules.specs.Course.{computedCourse}
+use Rattle.rules.specs.Pieces.{computedPieces}
 use Rattle.rules.specs.Player.{computedPlayer}
 use Rattle.rules.specs.Plans.{computedPlans}
 use Rattle.rules.specs.Refusals.{computedRefusals}
@@ -20,6 +21,6 @@ use Rattle.numbers.specs.Numbers.{computedNumbers}
 -- a mark, and no statement
 unfoldable pub computed : Unit {0}
 unfolding computedRules computedBoxes computedFraming computedOrder computedCounts computedFields computedHeader computedFragment
-    computedTrack computedBundle computedSet computedCourse computedPlayer computedPlans computedRefusals computedBytes
+    computedTrack computedBundle computedSet computedCourse computedPieces computedPlayer computedPlans computedRefusals computedBytes
     computedNumbers
 computed = tt

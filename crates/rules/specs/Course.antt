@@ -10,7 +10,7 @@ use Rattle.rules.specs.Boxes.{Box, boxes, whole}
 use Rattle.rules.specs.Order.{ordered, step6, onStepped}
 use Rattle.rules.specs.Header.{headerRules, ftypIn, headerIn, placesIn}
 use Rattle.rules.specs.Fragment.{shape, timing, startOf, endOf}
-use Rattle.rules.specs.Track.{headerOf, fragments, fragmentCount, firstStart, endOfTrack, ruling}
+use Rattle.rules.specs.Track.{headerOf, fragments, fragmentCount, firstTickOf, endOfTrack, ruling}
 use Rattle.rules.specs.Set.{mdhdAt, hdlrAt}
 use Rattle.rules.specs.declared.Course.{Course}
 use Rattle.rules.specs.declared.Course.the-variants.{On, Broken}
@@ -136,7 +136,7 @@ factsOf s =
       mdhd = mdhdAt s;
       hdlr = hdlrAt s;
       fragments = fragmentCount s;
-      start = firstStart s (fragments s);
+      start = firstTickOf s (fragments s);
       end = endOfTrack s;
     }
 

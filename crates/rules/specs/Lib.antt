@@ -13,11 +13,13 @@ pub mod Track
 pub mod Bundle
 pub mod Set
 pub mod Course
+pub mod Pieces
 pub mod Jobs
 pub mod Player
 pub mod Plans
 pub mod Bytes
 pub mod Computed
 pub mod Examples
+pub mod Cuts
 pub mod Sets
 pub mod Plays

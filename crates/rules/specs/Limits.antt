@@ -20,3 +20,7 @@ tickLimit = 9223372036854775807
 -- rule 24: the records of a bundle
 abbrev pub recordLimit : ℕ
 recordLimit = 16
+
+-- rule 29: the bytes that a `ftyp`, `moov` or `moof` of a track in pieces may declare
+abbrev pub gatherLimit : ℕ
+gatherLimit = 32768

@@ -69,6 +69,18 @@ trackNumbers = metNumbers ++ timingNumbers
 abbrev pub bundleNumbers : List ℕ
 bundleNumbers = recordNumbers ++ trackNumbers ++ setNumbers
 
+-- what a box declares that is gathered: this form's only
+abbrev pub gatherNumbers : List ℕ
+gatherNumbers = 29 ∷ []
+
+-- the values of a header and of its fragments
+abbrev pub valueNumbers : List ℕ
+valueNumbers = headerNumbers ++ shapeNumbers ++ timingNumbers
+
+-- all that a track in pieces may be refused under
+abbrev pub piecesNumbers : List ℕ
+piecesNumbers = trackNumbers ++ gatherNumbers
+
 -- these lists written out: no number too many, none too few
 pub index-list : indexNumbers ≡ 1 ∷ 2 ∷ 3 ∷ 4 ∷ 5 ∷ []
 index-list = refl
@@ -78,6 +90,12 @@ track-list = refl
 
 pub bundle-list : bundleNumbers ≡ 24 ∷ (trackNumbers ++ (25 ∷ 26 ∷ 27 ∷ 28 ∷ []))
 bundle-list = refl
+
+pub value-list : valueNumbers ≡ 7 ∷ 8 ∷ 9 ∷ 10 ∷ 11 ∷ 12 ∷ 13 ∷ 14 ∷ 15 ∷ 16 ∷ 17 ∷ 18 ∷ 19 ∷ 20 ∷ 21 ∷ 22 ∷ []
+value-list = refl
+
+pub pieces-list : piecesNumbers ≡ 1 ∷ 2 ∷ 3 ∷ 4 ∷ 5 ∷ 6 ∷ 7 ∷ 8 ∷ 9 ∷ 10 ∷ 11 ∷ 12 ∷ 13 ∷ 14 ∷ 15 ∷ 16 ∷ 17 ∷ 18 ∷ 19 ∷ 20 ∷ 21 ∷ 22 ∷ 29 ∷ []
+pieces-list = refl
 
 -- the mark of this file: its definitions unfold wherever it does
 unfoldable pub computedRefusals : Unit {0}

@@ -97,9 +97,9 @@ unfoldable pub timescale : List ℕ → ℕ
 timescale s = headerOf s .timescale
 
 -- the start of the first of fragments at places
-abbrev pub firstStart : List ℕ → List ℕ → FirstTick
-firstStart s [] = firstTick.Unset
-firstStart s (x ∷ xs) = firstTick.Tick (startAt s x)
+abbrev pub firstTickOf : List ℕ → List ℕ → FirstTick
+firstTickOf s [] = firstTick.Unset
+firstTickOf s (x ∷ xs) = firstTick.Tick (startAt s x)
 
 -- the end of the last of fragments at places, after an end before them
 unfoldable pub lastEnd : List ℕ → Header → Previous → List ℕ → Previous

@@ -175,6 +175,13 @@ pub struct Verdict {
     pub timescale: u64,
 }
 
+// What the form that takes pieces answers: a verdict, and the first and the last boundary.
+pub struct Answer {
+    pub verdict: Verdict,
+    pub first: u64,
+    pub last: u64,
+}
+
 // A test that must hold, with the number and the place of its refusal.
 pub fn must(ok: bool, number: u64, place: u64) -> Rule
     ensures { λ r. ⌜ r ≡ must ok number place ⌝ }

@@ -13,7 +13,7 @@ use Rattle.rules.specs.Limits.{byteLimit}
 use Rattle.rules.specs.Boxes.{headOf, sizeOf, whole}
 use Rattle.boxes.specs.Stands.{Stands, WholeBox}
 use Rattle.rules.specs.declared.Spot.{Spot}
-use Rattle.track.specs.Course.{Held}
+use Rattle.track.specs.Course.{OwnHeld}
 
 module _ (s : List ℕ) (b : Spot) (d : Stands s b) (e : ℕ) (q : b .at + b .size ≡ e) where
   -- they are the box's bytes
@@ -49,7 +49,7 @@ module _ (s : List ℕ) (b : Spot) (d : Stands s b) (e : ℕ) (q : b .at + b .si
       }
 
   -- so it is held
-  pub own-held : length s ≤ byteLimit → (k : ℕ) → Held (take (e - b .at) (drop (b .at) s)) b k
+  pub own-held : length s ≤ byteLimit → (k : ℕ) → OwnHeld (take (e - b .at) (drop (b .at) s)) b k
   own-held h k =
       record {
         place = omega (arith, d .fits);

@@ -57,7 +57,7 @@ CourseFits w (On (Paired j)) = FewFragments j byteLimit
 CourseFits w (Broken p) = Unit {0}
 
 -- a box of a type, and its own bytes: those of `ftyp` and of `moov` are held whole, of another's none need be
-pub record Held (own : List ℕ) (b : Spot) (k : ℕ) : Type 0 where
+pub record OwnHeld (own : List ℕ) (b : Spot) (k : ℕ) : Type 0 where
   pub place : b .at ≤ byteLimit
   pub low : 8 ≤ b .head
   pub high : b .head ≤ 16

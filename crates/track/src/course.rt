@@ -7,7 +7,7 @@ ghost use Rattle.rules.specs.Order.{ordered, awaits, step6};
 ghost use Rattle.rules.specs.Course.{opened, orTick, joined, andBox, courseEnd};
 ghost use Rattle.rules.specs.declared.Judged.the-variants.{Accepted, Refused};
 ghost use Rattle.boxes.specs.Stands.{WholeBox};
-ghost use Rattle.track.specs.Course.{boxOf, FewFragments, CourseFits, Held, Stops, saysPasses, waitsFrom};
+ghost use Rattle.track.specs.Course.{boxOf, FewFragments, CourseFits, OwnHeld, Stops, saysPasses, waitsFrom};
 use boxes::kinds::FTYP;
 use boxes::kinds::MDAT;
 use boxes::kinds::MOOF;
@@ -200,7 +200,7 @@ pub fn waits_from(course: Course, at: usize) -> usize
 // One box more, which is not passed over, by its own bytes and those of the `moof` that waits: rule 6 tells whether it may stand there, and then it
 // brings what its stage awaits. Of the own bytes only those of `ftyp` and `moov` are looked at.
 pub fn and_box(own: &[u8], waits: &[u8], course: Course, b: Spot, kind: u32) -> Course
-    requires { ⌜ CourseFits (now waits) course × Held (now own) b kind × Stops course kind ⌝ }
+    requires { ⌜ CourseFits (now waits) course × OwnHeld (now own) b kind × Stops course kind ⌝ }
     ensures { λ r. ⌜ r ≡ andBox (now (own .entry)) (now (waits .entry)) course (boxOf b kind) ⌝ }
 {
     match course {

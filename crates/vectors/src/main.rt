@@ -1,8 +1,13 @@
 // Reads test cases from standard input to its end, and prints a line for each: the job, its verdict, and a sum over the
 // table after it. A case: a byte for the job (0 index, 1 track, 2 set), four bytes for the table's room, four bytes for
 // the length, and that many bytes. For job 3 it prints what the program `intake` prints for the bytes; the room is for nothing.
+// For job 4 it prints what the program `stream` prints for them; the room is the length of the pieces, or 0 for one piece.
 use libc::STDIN_FILENO;
 use libc::STDOUT_FILENO;
+use lines::ANSWER_ROOM;
+use pieces::GATHER_LIMIT;
+use pieces::HEAD;
+use pieces::state::NUMBERS;
 use printed::INPUT_LIMIT;
 use printed::TEXT_ROOM;
 use rules::Verdict;
@@ -52,7 +57,39 @@ fn print_text(s: &[u8]) {
     io::write_all(STDOUT_FILENO, &text[..n]);
 }
 
-// Runs a case and prints its line, or its text.
+// Feeds a track in pieces of so many bytes, the last one shorter, or in one piece for 0.
+fn feed_cut(
+    numbers: &mut [u64; NUMBERS],
+    head: &mut [u8; HEAD],
+    kept: &mut [u8; GATHER_LIMIT],
+    s: &[u8],
+    cut: usize,
+) {
+    if cut == 0 {
+        pieces::feed(numbers, head, kept, s);
+        return;
+    }
+    let mut at = 0;
+    while cut < s.len() - at {
+        pieces::feed(numbers, head, kept, &s[at..at + cut]);
+        at += cut;
+    }
+    pieces::feed(numbers, head, kept, &s[at..]);
+}
+
+// Prints what the program `stream` prints for a track that comes in pieces of so many bytes, or in one piece for 0.
+fn print_answer(s: &[u8], cut: usize) {
+    let mut numbers = [0u64; NUMBERS];
+    let mut head = [0u8; HEAD];
+    let mut kept = [0u8; GATHER_LIMIT];
+    pieces::start(&mut numbers);
+    feed_cut(&mut numbers, &mut head, &mut kept, s, cut);
+    let mut text = [0u8; ANSWER_ROOM];
+    let n = lines::answer_lines(pieces::finish(&numbers, &head, &kept), &mut text);
+    io::write_all(STDOUT_FILENO, &text[..n]);
+}
+
+// Runs a case with a table and prints its line, or its text.
 fn print_case(job: u8, s: &[u8], t: &mut [u64]) {
     if job == 3 {
         print_text(s);
@@ -65,6 +102,19 @@ fn print_case(job: u8, s: &[u8], t: &mut [u64]) {
     io::write_all(STDOUT_FILENO, &line[..n]);
 }
 
+// Runs a case and prints what it comes to; answers whether the table has its room.
+fn run_case(job: u8, room: usize, s: &[u8], table: &mut [u64]) -> bool {
+    if job == 4 {
+        print_answer(s, room);
+        return true;
+    }
+    if table.len() < room {
+        return false;
+    }
+    print_case(job, s, &mut table[..room]);
+    true
+}
+
 // Reads a case and prints what it comes to; answers whether there was a whole one.
 fn next_case(bytes: &mut [u8], table: &mut [u64]) -> bool {
     let mut head = [0u8; 9];
@@ -73,17 +123,13 @@ fn next_case(bytes: &mut [u8], table: &mut [u64]) -> bool {
     }
     let room = numbers::be4(&head, 1) as usize;
     let size = numbers::be4(&head, 5) as usize;
-    if table.len() < room {
-        return false;
-    }
     if bytes.len() < size {
         return false;
     }
     if io::read_full(STDIN_FILENO, &mut bytes[..size]) < size {
         return false;
     }
-    print_case(head[0], &bytes[..size], &mut table[..room]);
-    true
+    run_case(head[0], room, &bytes[..size], table)
 }
 
 // Runs every case to the end of the input. A proved loop has to end, and nothing says that an input does: the loop counts

@@ -19,6 +19,7 @@ const EXAMPLES: &str = "\
 Examples:
   flangemint check low.mp4 mid.mp4 high.mp4     does this ladder switch?
   flangemint check --each *.mp4                 and what is wrong with each file?
+  flangemint stream < video.mp4                 one track while it arrives, in little memory
   flangemint boxes low.mp4                      the boxes, the refused one marked
   flangemint report *.mp4 -o page.html          a page that shows where the ladder breaks
   flangemint explain 19                         what a number means and what to do
@@ -39,6 +40,18 @@ Examples:
 
 The first line is that of the program intake: `accepted tracks N fragments F timescale S`, or
 `refused N track T at P`. Then comes why.
+";
+
+const STREAM: &str = "\
+Examples:
+  flangemint stream < video.mp4
+  cat init.mp4 $(ls -v seg*.m4s) | flangemint stream
+                                                header and segments, in the order of their numbers
+  tee video.mp4 < uplink | flangemint stream --json
+
+The first line is that of `check -`, and then come the first and the last boundary. Nothing of the
+data is kept, however long the track is, so that no box is named where it is refused. A ftyp, moov
+or moof of more than 32,768 bytes is refused here alone (29): `check -` has no such limit.
 ";
 
 const BOXES: &str = "\
@@ -93,6 +106,7 @@ pub struct Args {
 #[derive(Subcommand)]
 pub enum Command {
     Check(Check),
+    Stream(Stream),
     Boxes(Boxes),
     Report(Report),
     Explain(Explain),
@@ -116,6 +130,18 @@ pub struct Check {
     /// The file is a bundle, as `pack` writes it
     #[arg(long)]
     pub bundle: bool,
+    /// One JSON object (docs/JSON.md)
+    #[arg(long)]
+    pub json: bool,
+}
+
+/// Judge one track from standard input while it arrives
+#[derive(clap::Args)]
+#[command(after_help = format!("{STREAM}{STATUS}"))]
+pub struct Stream {
+    /// None but -: standard input is read
+    #[arg(value_name = "FILE", hide = true)]
+    pub files: Vec<OsString>,
     /// One JSON object (docs/JSON.md)
     #[arg(long)]
     pub json: bool,
@@ -149,7 +175,7 @@ pub struct Report {
 #[derive(clap::Args)]
 #[command(after_help = EXPLAIN)]
 pub struct Explain {
-    /// 0 to 28
+    /// 0 to 29
     #[arg(value_name = "NUMBER", value_parser = clap::value_parser!(u64).range(0..=crate::refusals::LAST))]
     pub number: u64,
 }

@@ -2,11 +2,12 @@
 
 use crate::facts::{Set, Track};
 use crate::found::Fact;
-use crate::judge::{BoxAt, Judged};
+use crate::judge::{Answer, BoxAt, Judged};
 use crate::layout::letters;
 use crate::place::paths;
 use crate::reason::{Fragment, Reason};
 use crate::refusals::Part;
+use crate::stream::Streamed;
 use flangemint::Verdict;
 use serde_json::{json, Map, Value};
 
@@ -38,6 +39,25 @@ fn judged(
         if boundaries {
             object.insert("boundaries".into(), json!(judged.boundaries));
         }
+    }
+    if let Some(reason) = reason {
+        object.insert("refusal".into(), Value::Object(refusal(reason)));
+    }
+    object
+}
+
+/// A track in pieces.
+pub fn streamed(streamed: &Streamed, reason: Option<&Reason>) -> Object {
+    let Answer { verdict: answered, first, last } = streamed.answer;
+    let mut object = verdict(&answered);
+    object.insert("files".into(), json!([streamed.name]));
+    object.insert("tracks".into(), json!(1));
+    object.insert("bytes".into(), json!(streamed.bytes));
+    if answered.is_accepted() {
+        object.insert("fragments".into(), json!(answered.count));
+        object.insert("timescale".into(), json!(answered.timescale));
+        object.insert("first".into(), json!(first));
+        object.insert("last".into(), json!(last));
     }
     if let Some(reason) = reason {
         object.insert("refusal".into(), Value::Object(refusal(reason)));
@@ -180,6 +200,8 @@ mod tests {
             add(about(&set, Reason::of_set(&set).as_ref(), true));
             if let Some(track) = set.track(0) {
                 add(boxes(&track));
+                let one = crate::stream::tests::streamed(track.bytes, 1000);
+                add(streamed(&one, Reason::of_stream(&one).as_ref()));
             }
         }
         add(not_judged(&[], "why"));
@@ -193,6 +215,7 @@ mod tests {
             "end",
             "error",
             "expected",
+            "last",
             "path",
             "refused",
             "seconds",

@@ -3,6 +3,9 @@
 
 use flangemint::{check_index, check_set, check_track, Verdict};
 
+/// A track in pieces: fed while it arrives, answered at its end.
+pub use flangemint::{Answer, Pieces};
+
 /// The longest input that a job looks at. One byte more is enough to hear that it is too long.
 pub const MOST_BYTES: usize = 1_073_741_824;
 

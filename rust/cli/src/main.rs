@@ -26,6 +26,7 @@ mod refusals;
 mod report;
 mod samples;
 mod status;
+mod stream;
 mod time;
 mod view;
 mod walk;
@@ -55,6 +56,7 @@ fn run(command: &Command) -> Result<Status, Failure> {
         Command::Check(args) => check::run(args),
         Command::Boxes(args) => boxes::run(args),
         Command::Report(args) => report::run(args),
+        Command::Stream(args) => stream::run(args),
         Command::Explain(args) => explain::run(args),
         Command::Pack(args) => pack::run(args),
         Command::Batch(args) => batch::run(args),

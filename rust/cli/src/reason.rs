@@ -8,6 +8,7 @@ use crate::found::{self, Contrast};
 use crate::judge;
 use crate::place::{spot, Spot};
 use crate::refusals::{section, Section};
+use crate::stream::Streamed;
 use flangemint::Verdict;
 
 pub struct Reason {
@@ -40,6 +41,12 @@ pub struct Start {
 const AFTER_BODIES: u64 = 16;
 
 const BUNDLE_HINT: &str = "the file begins like a bundle: `flangemint check --bundle` judges those";
+
+const NOT_KEPT: &str =
+    "nothing of the track is kept: `flangemint check` names the box and what stands there";
+
+const NO_SUCH_LIMIT: &str =
+    "`flangemint check` has no such limit: it holds the whole track in memory";
 
 impl Reason {
     /// The reason of a set's refusal; `None` if it is accepted.
@@ -78,6 +85,31 @@ impl Reason {
     pub fn of_track(track: &Track) -> Option<Reason> {
         let verdict = &track.alone.verdict;
         (!verdict.is_accepted()).then(|| Reason::of_place(track, verdict))
+    }
+
+    /// The reason of a stream's refusal, as far as it can be told without the bytes; `None` if it
+    /// is accepted.
+    pub fn of_stream(streamed: &Streamed) -> Option<Reason> {
+        let verdict = &streamed.answer.verdict;
+        if verdict.is_accepted() {
+            return None;
+        }
+        Some(Reason {
+            file: streamed.name.clone(),
+            at_end: verdict.place == streamed.bytes,
+            contrast: match verdict.number {
+                1 => found::too_long(),
+                29 => found::large_box(),
+                _ => None,
+            },
+            hint: match verdict.number {
+                _ if streamed.like_bundle => Some(BUNDLE_HINT),
+                1 => None,
+                29 => Some(NO_SUCH_LIMIT),
+                _ => Some(NOT_KEPT),
+            },
+            ..Reason::empty(verdict)
+        })
     }
 
     fn empty(verdict: &Verdict) -> Reason {

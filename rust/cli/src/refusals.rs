@@ -5,7 +5,7 @@ use std::sync::OnceLock;
 const PAGE: &str = include_str!("../../../docs/REFUSALS.md");
 
 /// The last number that has a section.
-pub const LAST: u64 = 28;
+pub const LAST: u64 = 29;
 
 /// `## 19. Decode time does not continue`, and what stands below it.
 #[derive(Debug)]
@@ -39,6 +39,10 @@ impl Part {
 impl Section {
     pub fn means(&self) -> Option<&Part> {
         self.part("Means")
+    }
+
+    pub fn place(&self) -> Option<&Part> {
+        self.part("Place")
     }
 
     pub fn cause(&self) -> Option<&Part> {

@@ -1,10 +1,11 @@
 //! A verdict in words.
 
 use crate::facts::Set;
-use crate::judge::Judged;
+use crate::judge::{Answer, Judged};
 use crate::place::Spot;
 use crate::reason::Reason;
 use crate::refusals::{Part, Section};
+use crate::stream::Streamed;
 use crate::time::seconds;
 use flangemint::Verdict;
 use std::fmt::Write;
@@ -64,16 +65,48 @@ pub fn accepted(set: &Set) -> Vec<Row> {
 fn acceptance(set: &Set, all: bool) -> String {
     let mut text = lines(&accepted(set));
     let Judged { verdict, boundaries } = &set.judged;
-    let time = |ticks: u64| seconds(ticks, verdict.timescale);
     text += "\nBoundaries, in ticks and seconds:\n";
-    let width = boundaries.last().map_or(0, |last| time(*last).len().max(last.to_string().len()));
     let shown = if all { boundaries.len() } else { SHOWN };
-    for ticks in boundaries.iter().take(shown) {
-        let _ = writeln!(text, "  {ticks:>width$}  {:>width$}", time(*ticks));
-    }
+    text += &boundary_lines(boundaries, shown, verdict.timescale);
     if let Some(left @ 1..) = boundaries.len().checked_sub(shown) {
         let are = if left == 1 { "is" } else { "are" };
         let _ = writeln!(text, "  {left} more {are} left out: --boundaries shows them all");
+    }
+    text
+}
+
+/// A line each, so many at most: ticks and seconds, as wide as the last one of all.
+fn boundary_lines(boundaries: &[u64], shown: usize, timescale: u64) -> String {
+    let time = |ticks: u64| seconds(ticks, timescale);
+    let width = boundaries.last().map_or(0, |last| time(*last).len().max(last.to_string().len()));
+    let line = |ticks: &u64| format!("  {ticks:>width$}  {:>width$}\n", time(*ticks));
+    boundaries.iter().take(shown).map(line).collect()
+}
+
+/// The whole answer about a stream.
+pub fn streamed(streamed: &Streamed, reason: Option<&Reason>) -> String {
+    let Answer { verdict, first, last } = streamed.answer;
+    let mut text = line(&verdict, 1) + "\n\n";
+    let Some(reason) = reason else {
+        let time = |ticks: u64| seconds(ticks, verdict.timescale);
+        let time = format!("{} to {}", time(first), time(last));
+        text += &lines(&[("file", streamed.name.clone()), ("time", time)]);
+        text += "\nFirst and last boundary, in ticks and seconds:\n";
+        return text + &boundary_lines(&[first, last], 2, verdict.timescale);
+    };
+    let mut rows = vec![("file", reason.file.clone())];
+    // Of 1 no byte is meant.
+    if verdict.number != 1 {
+        let place = verdict.place;
+        let ends = format!("byte {place}, where the track ends");
+        let inside = format!("byte {place} of {}", streamed.bytes);
+        rows.push(("place", if reason.at_end { ends } else { inside }));
+    }
+    rows.extend(explained(reason));
+    text += &lines(&rows);
+    if let Some(told) = reason.section {
+        let parts = [told.means(), told.place(), told.cause(), told.remedy()];
+        text += &format!("\n{}", section(told, &parts));
     }
     text
 }
@@ -96,6 +129,13 @@ pub fn refused(verdict: &Verdict, reason: &Reason) -> Vec<Row> {
         let start = start.unwrap_or_default();
         rows.push(("fragment", format!("{} (the first is 0){start}", fragment.number)));
     }
+    rows.extend(explained(reason));
+    rows
+}
+
+/// Both sides of the contrast and the note, as far as they are there.
+fn explained(reason: &Reason) -> Vec<Row> {
+    let mut rows = Vec::new();
     if let Some(contrast) = &reason.contrast {
         rows.push(("found", contrast.found.words.clone()));
         rows.push(("expected", contrast.expected.words.clone()));

@@ -1,6 +1,6 @@
 //! What the archive exports, made safe to call.
 
-use crate::Verdict;
+use crate::{Answer, Verdict, MAX_GATHERED};
 
 /// Bytes and their length, the lent table and its length in numbers, and the
 /// place for the verdict's five numbers.
@@ -22,7 +22,27 @@ unsafe extern "C" {
         verdict: *mut u64,
     );
     fn flangemint_set(data: *const u8, len: usize, table: *mut u64, room: usize, verdict: *mut u64);
+    fn flangemint_pieces_begin(numbers: *mut u64);
+    fn flangemint_pieces_take(
+        numbers: *mut u64,
+        head: *mut u8,
+        kept: *mut u8,
+        data: *const u8,
+        len: usize,
+    );
+    fn flangemint_pieces_answer(
+        numbers: *const u64,
+        head: *const u8,
+        kept: *const u8,
+        answer: *mut u64,
+    );
 }
+
+/// The arrays that hold a track in pieces. They may hold anything: then the answer has no meaning,
+/// but nothing faults.
+pub type Numbers = [u64; 24];
+pub type Head = [u8; 16];
+pub type Kept = [u8; MAX_GATHERED];
 
 /// Lists the boxes of a slice; on acceptance the table begins with four
 /// numbers a box: offset, whole size, type, depth.
@@ -59,4 +79,39 @@ fn call(check: Check, data: &[u8], table: &mut [u64]) -> Verdict {
     }
     let [number, track, place, count, timescale] = numbers;
     Verdict { number, track, place, count, timescale }
+}
+
+/// No byte yet; what the other two arrays hold is of no matter.
+pub fn pieces_begin(numbers: &mut Numbers) {
+    // SAFETY: the pointer leads to as many numbers as are asked for, borrowed mutably.
+    unsafe { flangemint_pieces_begin(numbers.as_mut_ptr()) };
+}
+
+pub fn pieces_take(numbers: &mut Numbers, head: &mut Head, kept: &mut Kept, piece: &[u8]) {
+    // SAFETY: the pointers lead to arrays of the lengths that are asked for, borrowed mutably, and
+    // to a slice with its own length, not null even where it is empty. Nothing overlaps.
+    unsafe {
+        flangemint_pieces_take(
+            numbers.as_mut_ptr(),
+            head.as_mut_ptr(),
+            kept.as_mut_ptr(),
+            piece.as_ptr(),
+            piece.len(),
+        );
+    }
+}
+
+pub fn pieces_answer(numbers: &Numbers, head: &Head, kept: &Kept) -> Answer {
+    let mut answer = [0; 7];
+    // SAFETY: the pointers lead to arrays of the lengths that are asked for; the answer is another.
+    unsafe {
+        flangemint_pieces_answer(
+            numbers.as_ptr(),
+            head.as_ptr(),
+            kept.as_ptr(),
+            answer.as_mut_ptr(),
+        );
+    }
+    let [number, track, place, count, timescale, first, last] = answer;
+    Answer { verdict: Verdict { number, track, place, count, timescale }, first, last }
 }

@@ -9,6 +9,9 @@ pub const MAX_BOXES: usize = 4096;
 /// Tracks of a bundle: rule 24.
 pub const MAX_TRACKS: usize = 16;
 
+/// Bytes of a `ftyp`, `moov` or `moof` of a track that arrives in pieces: rule 29.
+pub const MAX_GATHERED: usize = 32_768;
+
 /// Numbers in a table that is never too short for the index.
 pub const INDEX_ROOM: usize = 4 * MAX_BOXES;
 

@@ -78,6 +78,7 @@ refusals! {
     26 OtherTimescale "The timescale is not that of track 0."
     27 OtherFragmentCount "The number of fragments is not that of track 0."
     28 OtherBoundary "A fragment boundary is not where track 0 has it."
+    29 LargeBox "A ftyp, moov or moof of a track in pieces declares over 32,768 bytes."
 }
 
 impl Refusal {
@@ -101,12 +102,12 @@ mod tests {
     #[test]
     fn one_variant_a_number() {
         let numbers: Vec<u64> = Refusal::ALL.iter().map(|refusal| refusal.number()).collect();
-        assert_eq!(numbers, (1..=28).collect::<Vec<_>>());
+        assert_eq!(numbers, (1..=29).collect::<Vec<_>>());
         for refusal in Refusal::ALL {
             assert_eq!(Refusal::try_from(refusal.number()), Ok(*refusal));
             assert!(refusal.to_string().ends_with('.'));
         }
         assert_eq!(Refusal::try_from(0), Err(UnknownNumber(0)));
-        assert_eq!(Refusal::try_from(29), Err(UnknownNumber(29)));
+        assert_eq!(Refusal::try_from(30), Err(UnknownNumber(30)));
     }
 }

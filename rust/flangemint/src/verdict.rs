@@ -29,6 +29,16 @@ impl Verdict {
     }
 }
 
+/// What a track in pieces is answered with.
+#[derive(Clone, Copy, Debug, Default, PartialEq, Eq)]
+pub struct Answer {
+    pub verdict: Verdict,
+    /// The first boundary in ticks; 0 on refusal.
+    pub first: u64,
+    /// The last boundary in ticks; 0 on refusal.
+    pub last: u64,
+}
+
 impl fmt::Display for Verdict {
     fn fmt(&self, f: &mut fmt::Formatter) -> fmt::Result {
         let Verdict { number, track, place, count, timescale } = self;
@@ -59,8 +69,8 @@ mod tests {
         assert_eq!(refused.to_string(), words);
         assert_eq!(refused.refusal(), Some(Refusal::FragmentStart));
 
-        let unknown = Verdict { number: 29, ..Verdict::default() };
-        assert_eq!(unknown.to_string(), "refused 29 track 0 at 0: No rule has the number 29.");
+        let unknown = Verdict { number: 30, ..Verdict::default() };
+        assert_eq!(unknown.to_string(), "refused 30 track 0 at 0: No rule has the number 30.");
         assert!(!unknown.is_accepted());
     }
 }

@@ -1,6 +1,6 @@
 //! The crate's constants are those of the C header.
 
-use flangemint::{INDEX_ROOM, MAX_BOXES, MAX_BYTES, MAX_TRACKS, TRACK_ROOM, VERSION};
+use flangemint::{INDEX_ROOM, MAX_BOXES, MAX_BYTES, MAX_GATHERED, MAX_TRACKS, TRACK_ROOM, VERSION};
 
 /// What the header defines under a name, without a comment behind it.
 fn defined(name: &str) -> String {
@@ -15,6 +15,7 @@ fn limits() {
     assert_eq!(defined("MAX_BYTES"), MAX_BYTES.to_string());
     assert_eq!(defined("MAX_BOXES"), MAX_BOXES.to_string());
     assert_eq!(defined("MAX_TRACKS"), MAX_TRACKS.to_string());
+    assert_eq!(defined("MAX_GATHERED"), MAX_GATHERED.to_string());
     assert_eq!(defined("INDEX_ROOM"), "(4 * FLANGEMINT_MAX_BOXES)");
     assert_eq!(INDEX_ROOM, 4 * MAX_BOXES);
     assert_eq!(defined("TRACK_ROOM"), "((FLANGEMINT_MAX_BOXES - 20) / 7 + 1)");

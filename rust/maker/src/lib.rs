@@ -9,6 +9,7 @@
 pub mod blind;
 pub mod bundle;
 pub mod cases;
+pub mod cuts;
 pub mod damage;
 pub mod decorate;
 pub mod draw;
@@ -16,6 +17,7 @@ pub mod examples;
 pub mod layout;
 pub mod mix;
 pub mod node;
+pub mod pieces;
 pub mod rng;
 pub mod soup;
 pub mod track;

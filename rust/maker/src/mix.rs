@@ -9,7 +9,7 @@ use crate::damage::{aimed, Damaged, TRACK_NUMBERS};
 use crate::decorate::good;
 use crate::draw::Plan;
 use crate::layout::steps;
-use crate::node;
+use crate::node::{self, Node};
 use crate::rng::Rng;
 use crate::soup::soup;
 
@@ -47,22 +47,29 @@ fn index(rng: &mut Rng) -> Drawn {
     (node::bytes(&boxes), Some(Answer::listed(node::rows(&boxes))))
 }
 
-fn accepted(plan: &Plan) -> Answer {
+pub fn accepted(plan: &Plan) -> Answer {
     Answer::accepted(plan.timescale, plan.boundaries.clone())
 }
 
 fn track(rng: &mut Rng) -> Drawn {
+    let (boxes, expected) = track_boxes(rng);
+    (node::bytes(&boxes), Some(expected))
+}
+
+/// A track, good or damaged with aim.
+pub fn track_boxes(rng: &mut Rng) -> (Vec<Node>, Answer) {
     let plan = Plan::draw(rng);
     if rng.chance(75) {
         let number = some_number(rng);
         let damaged = aimed(number, &plan, rng);
-        return (node::bytes(&damaged.boxes), Some(refused(number, &damaged)));
+        let expected = refused(number, &damaged);
+        return (damaged.boxes, expected);
     }
     let mut boxes = good(&plan, rng);
     if rng.chance(3) {
         node::fill_up(&mut boxes, MAX_BOXES);
     }
-    (node::bytes(&boxes), Some(accepted(&plan)))
+    (boxes, accepted(&plan))
 }
 
 /// Rule 5 takes long to make and is drawn less often.

@@ -17,11 +17,25 @@ pub struct Span {
     pub end: u64,
 }
 
+/// A data box, whose bytes no rule reads.
+pub struct DataBox {
+    pub at: usize,
+    /// The header's length.
+    pub header: usize,
+    pub payload: u64,
+}
+
+impl From<Framed<'_>> for DataBox {
+    fn from(mdat: Framed) -> DataBox {
+        DataBox { at: mdat.at, header: mdat.header(), payload: mdat.body.len() as u64 }
+    }
+}
+
 /// Rules 14 to 22, in their order; `clock` is the end of the fragment before.
 pub fn check(
     header: &Header,
     moof: &Moof,
-    mdat: &Framed,
+    mdat: &DataBox,
     clock: Option<u64>,
 ) -> Result<Span, Refusal> {
     let mfhd = moof.mfhd.one(14, moof.at)?;
@@ -56,7 +70,7 @@ pub fn check(
     }
 
     // Only now are samples summed: rule 18 keeps every sum below far from 2^64.
-    let payload = (moof.size + mdat.header()) as u64;
+    let payload = (moof.size + mdat.header) as u64;
     let mut totals = Totals::new(payload);
     runs.each(|at, run| totals.add(at, run, &tfhd_fields.defaults));
     let end = start.checked_add(totals.duration).filter(|end| *end <= LAST_TICK);
@@ -70,8 +84,8 @@ pub fn check(
     if let Some(place) = totals.wrong_run {
         return Err(Refusal::new(22, place));
     }
-    if totals.next - payload != mdat.body.len() as u64 {
-        return Err(mdat.refused(22));
+    if totals.next - payload != mdat.payload {
+        return Err(Refusal::new(22, mdat.at));
     }
     Ok(Span { start, end })
 }

@@ -59,6 +59,11 @@ impl Allowance {
         Allowance(MAX_BOXES)
     }
 
+    /// Rule 5, where so many boxes have come.
+    pub fn after(boxes: usize) -> Self {
+        Allowance(MAX_BOXES.saturating_sub(boxes))
+    }
+
     /// How many have come.
     pub fn used(&self) -> usize {
         MAX_BOXES - self.0

@@ -62,7 +62,7 @@ impl Path {
 }
 
 /// Frames a whole slice and shows each box with its depth; gives the number of boxes.
-fn walk<'a>(data: &'a [u8], mut visit: impl FnMut(&Framed<'a>, u64)) -> Result<usize, Refusal> {
+pub fn walk<'a>(data: &'a [u8], mut visit: impl FnMut(&Framed<'a>, u64)) -> Result<usize, Refusal> {
     let left = walk_run(Boxes::new(data, 0), Path::Top, 0, Allowance::new(), &mut visit)?;
     Ok(left.used())
 }

@@ -1,7 +1,8 @@
 //! Document 01's three jobs over lent bytes, in ordinary Rust: list the boxes
-//! of a slice, check one track, check a switching set.
+//! of a slice, check one track, check a switching set; and request 1's form of
+//! the second, which takes a track in pieces.
 //!
-//! Nothing here allocates, and nothing panics, whatever the bytes are. A lent
+//! Nothing here panics, whatever the bytes are, and only `Pieces` allocates. A lent
 //! table is written on acceptance alone, and then only as far as the job fills it.
 
 #![forbid(unsafe_code)]
@@ -16,6 +17,7 @@ mod kinds;
 mod moof;
 mod moov;
 mod order;
+mod pieces;
 mod run;
 mod set;
 mod sums;
@@ -24,6 +26,7 @@ mod track;
 mod verdict;
 
 pub use index::index;
+pub use pieces::{pieces_whole, Pieces, PiecesAnswer};
 pub use set::set;
 pub use track::track;
 pub use verdict::Verdict;
@@ -34,5 +37,7 @@ pub const MAX_BYTES: usize = 1 << 30;
 pub const MAX_BOXES: usize = 4096;
 /// Rule 18 (house): the most samples in one fragment.
 pub const MAX_SAMPLES: u64 = 65_536;
+/// Rule 29: the most bytes that a `ftyp`, `moov` or `moof` of a track in pieces may declare.
+pub const MAX_KEPT: u64 = 32_768;
 /// The bundle: the most records in one set.
 pub const MAX_TRACKS: usize = 16;

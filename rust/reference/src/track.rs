@@ -97,7 +97,7 @@ impl<'a, B: FnMut(u64, usize)> Contents<'a, B> {
     #[inline(always)]
     fn add_mdat(&mut self, mdat: Framed) {
         let (Some(header), None) = (&self.header, self.broken) else { return };
-        match fragment::check(header, &self.moof, &mdat, self.clock) {
+        match fragment::check(header, &self.moof, &mdat.into(), self.clock) {
             Ok(span) => {
                 (self.boundary)(span.start, self.moof.at);
                 self.clock = Some(span.end);

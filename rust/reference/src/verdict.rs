@@ -16,8 +16,8 @@ pub struct Verdict {
 /// A broken rule and the place it is reported at.
 #[derive(Clone, Copy, Debug, PartialEq, Eq)]
 pub struct Refusal {
-    number: u64,
-    place: usize,
+    pub number: u64,
+    pub place: usize,
 }
 
 impl Refusal {

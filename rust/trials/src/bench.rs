@@ -1,6 +1,7 @@
 //! `trials bench`: a judge's time beside the reference's, on the same bytes,
 //! in turn, the best of many.
 
+use crate::bench_pieces;
 use crate::drawn::AMPLE;
 use crate::judge::Judge;
 use crate::run::compare;
@@ -45,7 +46,7 @@ pub fn bench(tried: Judge) -> Result<(), String> {
         worst = worst.max(bench_track(tried, name, boxes)?);
     }
     println!("worst ratio {worst:.2}");
-    Ok(())
+    bench_pieces::bench(tried)
 }
 
 /// A good track and damaged ones, by themselves and twice in a set; gives the worst ratio.

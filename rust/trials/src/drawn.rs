@@ -50,15 +50,18 @@ impl Drawn {
 
     /// Leaves the bytes in a file; says what differs, and how to make the case again.
     pub fn report(&self, difference: &str) -> String {
-        let Drawn { case, seed, number, .. } = self;
-        let job = case.job.name();
-        let name = format!("{job}-{seed}-{number}.bin");
-        let dumped = match std::fs::write(&name, &case.bytes) {
-            Ok(()) => format!("bytes in {name}"),
-            Err(error) => format!("{name}: {error}"),
-        };
-        format!("{job} seed {seed} case {number}: {difference}; {dumped}")
+        report(self.case.job.name(), self.seed, self.number, &self.case.bytes, difference)
     }
+}
+
+/// Leaves the bytes of a case in a file; says what differs, and how to make the case again.
+pub fn report(job: &str, seed: u64, number: u64, bytes: &[u8], difference: &str) -> String {
+    let name = format!("{job}-{seed}-{number}.bin");
+    let dumped = match std::fs::write(&name, bytes) {
+        Ok(()) => format!("bytes in {name}"),
+        Err(error) => format!("{name}: {error}"),
+    };
+    format!("{job} seed {seed} case {number}: {difference}; {dumped}")
 }
 
 /// The reference against what the maker knows of the case.

@@ -1,9 +1,7 @@
 //! How often each number was reached.
 
-use maker::cases::Job;
-
-/// One more than the highest number of document 01.
-const NUMBERS: usize = 29;
+/// One more than the highest number.
+const NUMBERS: usize = 30;
 
 #[derive(Default)]
 pub struct Histogram([u64; NUMBERS]);
@@ -13,8 +11,13 @@ impl Histogram {
         self.0[number as usize] += 1;
     }
 
-    pub fn print(&self, job: Job) {
-        println!("{}, {} cases", job.name(), self.0.iter().sum::<u64>());
+    /// Those of these numbers that were not reached.
+    pub fn missed(&self, numbers: impl Iterator<Item = u64>) -> Vec<u64> {
+        numbers.filter(|number| self.0[*number as usize] == 0).collect()
+    }
+
+    pub fn print(&self, job: &str) {
+        println!("{job}, {} cases", self.0.iter().sum::<u64>());
         let seen = self.0.iter().enumerate().filter(|(_, times)| **times > 0);
         let seen: Vec<String> =
             seen.map(|(number, times)| format!("{number:>4}: {times:<8}")).collect();

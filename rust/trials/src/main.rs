@@ -1,17 +1,24 @@
 //! Tries the product against the reference.
 
 mod bench;
+mod bench_pieces;
 mod drawn;
 mod dump;
 mod expect;
+#[cfg(linked)]
+mod guarded;
 mod histogram;
 mod judge;
 mod options;
+mod pieces;
 mod pipe;
 mod run;
+#[cfg(linked)]
+mod scribble;
 mod slowest;
 mod small_stack;
 mod stack;
+mod streams;
 mod tracks;
 mod vectors;
 mod wire;
@@ -23,17 +30,23 @@ use std::process::ExitCode;
 const USAGE: &str = "\
 usage: trials run [--seed S] [--from K] [--cases N]
                                                    the archive's verdicts and tables, N cases a job
+       trials pieces [--seed S] [--from K] [--cases N]
+                                                   of these the job pieces alone
        trials pipe [--seed S] [--from K] [--cases N] -- COMMAND..
                                                    the same of a program that reads cases
        trials self [--seed S] [--from K] [--cases N]
                                                    the reference beside what the maker expects
+       trials scribble [--seed S] [--from K] [--cases N]
+                                                   the form that takes pieces with a spoilt memory: no fault
        trials stack                                worst inputs in 64 KiB of stack
        trials bench                                the archive's time beside the reference's
+       trials bench pieces                         pieces beside the whole slice, alone
        trials slowest [--seed S] [--from K] [--cases N]
                                                    drawn inputs from 10 KiB on and crowded tracks, the slowest
                                                    beside the reference
        trials vectors [--seed S] [--cases N] [--max BYTES]
-                                                   write cases.bin, expected.txt, names.txt
+                                                   write cases.bin, expected.txt, names.txt,
+                                                   and those of the program `stream`
        trials expect FILE..                        what `intake` prints for bundles, under a line `== FILE` each
        trials expect                               the same for standard input, without that line
        trials dump NAME                            write an example to standard output
@@ -55,13 +68,25 @@ fn main() -> ExitCode {
 fn dispatch(command: &str, rest: &[String]) -> Result<(), String> {
     match command {
         "run" => run_as(Judge::archive()?, rest),
+        "pieces" => {
+            let (seed, from, cases) = span(rest)?;
+            pieces::run(Judge::archive()?, seed, from, cases)
+        }
         "self" => run_as(Judge::REFERENCE, rest),
         "pipe" => {
             let end = rest.iter().position(|word| word == "--").unwrap_or(rest.len());
             let (seed, from, cases) = span(&rest[..end])?;
             pipe::pipe(rest.get(end + 1..).unwrap_or_default(), seed, from, cases)
         }
+        #[cfg(linked)]
+        "scribble" => {
+            let (seed, from, cases) = span(rest)?;
+            scribble::scribble(seed, from, cases)
+        }
+        #[cfg(not(linked))]
+        "scribble" => Judge::archive().map(drop),
         "stack" => stack::stack(Judge::archive()?),
+        "bench" if rest == ["pieces"] => bench_pieces::bench(Judge::archive()?),
         "bench" => bench::bench(Judge::archive()?),
         "slowest" => {
             let (seed, from, cases) = span(rest)?;

@@ -24,7 +24,7 @@ pub fn pipe(command: &[String], seed: u64, from: u64, cases: u64) -> Result<(), 
             program.try_batch(&batch, &mut histogram)?;
             left -= batch.cases.len() as u64;
         }
-        histogram.print(job);
+        histogram.print(job.name());
         let left_out = next - from - cases;
         if left_out > 0 {
             println!("{left_out} more, longer than {MAX_BYTES} bytes, left out");

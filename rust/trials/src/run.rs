@@ -3,10 +3,11 @@
 use crate::drawn::Drawn;
 use crate::histogram::Histogram;
 use crate::judge::Judge;
+use crate::pieces;
 use maker::cases::Job;
 use reference::Verdict;
 
-/// Tries cases `from` to `from + cases` of each job.
+/// Tries cases `from` to `from + cases` of each job, that of pieces last.
 pub fn run(tried: Judge, seed: u64, from: u64, cases: u64) -> Result<(), String> {
     println!("trying the {}, seed {seed}, {cases} cases a job from case {from}", tried.name);
     for job in Job::ALL {
@@ -16,9 +17,9 @@ pub fn run(tried: Judge, seed: u64, from: u64, cases: u64) -> Result<(), String>
             let verdict = agreed(tried, &mut drawn);
             histogram.add(verdict.map_err(|difference| drawn.report(&difference))?.number);
         }
-        histogram.print(job);
+        histogram.print(job.name());
     }
-    Ok(())
+    pieces::run(tried, seed, from, cases)
 }
 
 /// Gives the verdict that all agree on, or the first difference.

@@ -4,13 +4,16 @@ use crate::drawn::AMPLE;
 use crate::judge::Judge;
 use crate::run::compare;
 use crate::small_stack::with_stack;
-use crate::tracks::{bundle, crowded, large, many_runs, Shape};
+use crate::tracks::{bundle, crowded, crowded_in, large, many_runs, Shape};
 use maker::cases::Job;
 use maker::layout::{is_container, join};
-use maker::node::{self, Kind, Node};
+use maker::node::{self, Header, Kind, Node};
+use maker::pieces::large_t;
 use std::io::Write;
 
 const STACK: usize = 64 * 1024;
+/// More pieces than this show nothing new.
+const MOST_PIECES: usize = 200_000;
 
 /// An overflow ends the process; what was being tried is the last line.
 pub fn stack(tried: Judge) -> Result<(), String> {
@@ -29,7 +32,29 @@ pub fn stack(tried: Judge) -> Result<(), String> {
             }
             println!("fits, number {}", verdict.number);
         }
+        for step in [1, 4096, usize::MAX] {
+            if bytes.len() / step < MOST_PIECES {
+                pieces(tried, name, &bytes, step)?;
+            }
+        }
     }
+    Ok(())
+}
+
+/// The same bytes as a track in pieces of that many bytes.
+fn pieces(tried: Judge, name: &str, bytes: &[u8], step: usize) -> Result<(), String> {
+    let cut = if step > bytes.len() { "at once".to_string() } else { format!("by {step}") };
+    print!("pieces {name}, {cut}: ");
+    std::io::stdout().flush().map_err(|error| error.to_string())?;
+    let right = reference::pieces_whole(bytes);
+    let bytes = bytes.to_vec();
+    // The form's memory is the caller's too and no part of its stack.
+    let mut form = tried.form();
+    let answer = with_stack(STACK, move || form.steps(&bytes, step))?;
+    if answer != right {
+        return Err(format!("{answer:?} in the thread, the joined bytes are answered {right:?}"));
+    }
+    println!("fits, number {}", right.verdict.number);
     Ok(())
 }
 
@@ -54,6 +79,10 @@ fn worst() -> Vec<(&'static str, Vec<u8>)> {
         track("a good track of 582 fragments", fragments.clone()),
         track("65,536 samples in many runs", many_runs()),
         track("long runs", large(1 << 20, Shape::ManySmall)),
+        track("a good track with a crowd in moov", crowded_in(&[(*b"moov", 0)], true)),
+        track("a good track with a crowd in moof", crowded_in(&[(*b"moof", 1)], false)),
+        track("a moov of 32,768 bytes", large_t(b"moov", Header::Short, 32_768, true)),
+        track("a moof of 32,768 bytes", large_t(b"moof", Header::Long, 32_768, false)),
         set("16 tracks of 4,096 boxes", crowded()),
         set("16 tracks of 582 fragments", fragments),
         set("16 tracks of 65,536 samples in many runs", many_runs()),

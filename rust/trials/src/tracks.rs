@@ -49,6 +49,18 @@ pub fn large(bytes: usize, shape: Shape) -> Vec<Node> {
     planned(bytes, shape.plan(bytes)).boxes(&mut Fill::Zeros)
 }
 
+/// A good track of about this many bytes in as many boxes and fragments as there may be.
+pub fn full(bytes: usize) -> Vec<Node> {
+    let mut boxes = planned(bytes, (MAX_FRAGMENTS, 48)).boxes(&mut Fill::Zeros);
+    node::fill_up(&mut boxes, MAX_BOXES);
+    boxes
+}
+
+/// A good track with one data box of this many bytes.
+pub fn one_data_box(bytes: usize) -> Vec<Node> {
+    planned(bytes, (1, 48)).boxes(&mut Fill::Zeros)
+}
+
 /// As many fragments of a sample each as fit, with what few encoders write.
 pub fn unusual(dress: Dress) -> Vec<Node> {
     let fragments = match dress {

@@ -1,7 +1,9 @@
 //! `trials vectors`: `cases.bin`, what a program reads; `expected.txt`, what it
-//! then writes; `names.txt`, one line a case.
+//! then writes; `names.txt`, one line a case. The same of the program `stream`, under names
+//! that begin so.
 
 use crate::drawn::Drawn;
+use crate::streams::Streams;
 use crate::wire::{self, MAX_ROOM};
 use maker::cases::{Case, Job};
 use maker::examples::examples;
@@ -34,6 +36,12 @@ pub fn vectors(seed: u64, cases: u64, max: usize) -> Result<(), String> {
     write("expected.txt", files.expected.as_bytes())?;
     write("names.txt", files.names.as_bytes())?;
     println!("{} cases in {} bytes", files.count, files.cases.len());
+
+    let streams = Streams::make();
+    write("stream-cases.bin", &streams.cases)?;
+    write("stream-expected.txt", streams.expected.as_bytes())?;
+    write("stream-names.txt", streams.names.as_bytes())?;
+    println!("{} cases of stream in {} bytes", streams.count, streams.cases.len());
     Ok(())
 }
 

@@ -16,11 +16,16 @@ pub const MAX_ROOM: usize = 4096;
 
 /// The case, with a table of this length.
 pub fn put(case: &Case, room: usize, out: &mut Vec<u8>) {
-    out.push(case.job as u8);
-    for length in [room, case.bytes.len()] {
+    put_bytes(case.job as u8, room, &case.bytes, out);
+}
+
+/// The bytes of a case of any job.
+pub fn put_bytes(job: u8, room: usize, bytes: &[u8], out: &mut Vec<u8>) {
+    out.push(job);
+    for length in [room, bytes.len()] {
         out.extend(u32::try_from(length).expect("a short case").to_be_bytes());
     }
-    out.extend(&case.bytes);
+    out.extend(bytes);
 }
 
 /// The reference's verdict, and the line of a program that agrees.

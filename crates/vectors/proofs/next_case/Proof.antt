@@ -35,9 +35,6 @@ cast-size c = search needs
 returns-2 : tie.Need-returns-2
 returns-2 c = search needs
 
-returns-3 : tie.Need-returns-3
-returns-3 c = search needs
-
 slice-relend-prefix-read-full : tie.Need-slice-relend-prefix-read-full
 slice-relend-prefix-read-full c = search needs
 
@@ -50,26 +47,20 @@ read-full-requires-2 c κs = search needs
 same-length : tie.Need-same-length
 same-length c = search needs
 
-returns-4 : tie.Need-returns-4
-returns-4 c = search needs
+returns-3 : tie.Need-returns-3
+returns-3 c = search needs
 
-array-read-print-case : tie.Need-array-read-print-case
-array-read-print-case c = search needs
+array-read-run-case : tie.Need-array-read-run-case
+array-read-run-case c = search needs
 
-slice-reshare-prefix-print-case : tie.Need-slice-reshare-prefix-print-case
-slice-reshare-prefix-print-case c = search needs
+slice-reshare-prefix-run-case : tie.Need-slice-reshare-prefix-run-case
+slice-reshare-prefix-run-case c = search needs
 
-slice-aggregate-print-case : tie.Need-slice-aggregate-print-case
-slice-aggregate-print-case c = sym (length-take-le _ _ (search needs))
+slice-aggregate-run-case : tie.Need-slice-aggregate-run-case
+slice-aggregate-run-case c = sym (length-take-le _ _ (search needs))
 
-slice-relend-prefix-print-case : tie.Need-slice-relend-prefix-print-case
-slice-relend-prefix-print-case c = search needs
-
-slice-aggregate-print-case-2 : tie.Need-slice-aggregate-print-case-2
-slice-aggregate-print-case-2 c = sym (length-take-le _ _ (search needs))
-
-print-case-requires : tie.Need-print-case-requires
-print-case-requires c κs = search needs
+run-case-requires : tie.Need-run-case-requires
+run-case-requires c κs = search needs
 
 same-length-2 : tie.Need-same-length-2
 same-length-2 c = search needs
@@ -77,8 +68,8 @@ same-length-2 c = search needs
 same-length-3 : tie.Need-same-length-3
 same-length-3 c = search needs
 
-returns-5 : tie.Need-returns-5
-returns-5 c = search needs
+returns-4 : tie.Need-returns-4
+returns-4 c = search needs
 
 pub next-case-spec : {M : Type 1} → statement M
 next-case-spec =
@@ -94,18 +85,15 @@ next-case-spec =
     be4-requires-2
     cast-size
     returns-2
-    returns-3
     slice-relend-prefix-read-full
     slice-aggregate-read-full-2
     read-full-requires-2
     same-length
-    returns-4
-    array-read-print-case
-    slice-reshare-prefix-print-case
-    slice-aggregate-print-case
-    slice-relend-prefix-print-case
-    slice-aggregate-print-case-2
-    print-case-requires
+    returns-3
+    array-read-run-case
+    slice-reshare-prefix-run-case
+    slice-aggregate-run-case
+    run-case-requires
     same-length-2
     same-length-3
-    returns-5)
+    returns-4)

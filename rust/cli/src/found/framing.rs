@@ -1,4 +1,4 @@
-//! Numbers 1 to 6, and 24: the bytes as boxes, and as records.
+//! Numbers 1 to 6, 24 and 29: the bytes as boxes, and as records.
 
 use super::{contrast, counted, many, said, Contrast};
 use crate::bundle;
@@ -6,12 +6,21 @@ use crate::judge::{BoxAt, MOST_BYTES};
 use crate::layout::letters;
 use crate::place::container_around;
 use crate::view::View;
+use flangemint::MAX_GATHERED;
 
 /// The contrast of a track or a bundle over the limit, number 1.
 pub fn too_long() -> Option<Contrast> {
     contrast(
         said(format!("more than {MOST_BYTES} bytes")),
         counted(MOST_BYTES as i128, format!("at most {MOST_BYTES} bytes")),
+    )
+}
+
+/// The contrast of number 29, as far as the number tells it: nothing of a stream is kept.
+pub fn large_box() -> Option<Contrast> {
+    contrast(
+        said(format!("a ftyp, moov or moof of more than {MAX_GATHERED} bytes")),
+        counted(MAX_GATHERED as i128, format!("at most {MAX_GATHERED} bytes")),
     )
 }
 

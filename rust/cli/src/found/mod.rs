@@ -9,7 +9,7 @@ mod set;
 use crate::facts::Track;
 use crate::view::View;
 
-pub use framing::{in_bundle, too_long};
+pub use framing::{in_bundle, large_box, too_long};
 pub use set::beside;
 
 /// One side of the contrast.

@@ -6,7 +6,7 @@ use crate::run::run;
 #[test]
 fn every_number() {
     let folder = Folder::new("every_number");
-    for number in 0..=28 {
+    for number in 0..=29 {
         let ran = run(&folder, &["explain", &number.to_string()]);
         assert_eq!((ran.status, ran.err.as_str()), (0, ""));
         assert!(ran.first_line().starts_with(&format!("{number}. ")), "{}", ran.out);
@@ -21,16 +21,16 @@ fn every_number() {
 #[test]
 fn other_numbers() {
     let folder = Folder::new("other_numbers");
-    for wrong in ["29", "-1", "nineteen", "", "99999999999999999999"] {
+    for wrong in ["30", "-1", "nineteen", "", "99999999999999999999"] {
         run(&folder, &["explain", wrong]).assert_not_judged("");
     }
-    run(&folder, &["explain", "29"]).assert_not_judged("29 is not in 0..=28");
+    run(&folder, &["explain", "30"]).assert_not_judged("30 is not in 0..=29");
 }
 
 #[test]
 fn help_and_version() {
     let folder = Folder::new("help_and_version");
-    for command in ["check", "boxes", "explain", "pack", "batch"] {
+    for command in ["check", "stream", "boxes", "explain", "pack", "batch"] {
         let ran = run(&folder, &[command, "--help"]);
         assert_eq!((ran.status, ran.err.as_str()), (0, ""));
         let example = format!("\n  flangemint {command} ");

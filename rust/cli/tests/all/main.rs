@@ -9,4 +9,5 @@ mod large;
 mod pack;
 mod report;
 mod run;
+mod stream;
 mod streams;

@@ -15,7 +15,7 @@ fn full() -> Stdio {
 fn a_closed_pipe() {
     let folder = Folder::new("a_closed_pipe");
     for (fragments, shift, status) in [(2, 0, 0), (2, 1, 1)] {
-        for word in ["check", "boxes"] {
+        for word in ["check", "stream", "boxes"] {
             let mut child = command(&folder, &[word, "-"]).stdin(Stdio::piped()).spawn().unwrap();
             // Closed before it has read what it answers about.
             drop(child.stdout.take());
@@ -43,9 +43,11 @@ fn a_full_disk() {
     let folder = Folder::new("a_full_disk");
     folder.put("track.mp4", &track_t(2, |_| ()));
     folder.put("list", b"track.mp4\ntrack.mp4\n");
-    let calls: [&[&str]; 8] = [
+    let calls: [&[&str]; 10] = [
         &["check", "track.mp4"],
         &["check", "--json", "track.mp4"],
+        &["stream"],
+        &["stream", "--json"],
         &["boxes", "track.mp4"],
         &["explain", "19"],
         &["pack", "track.mp4", "-o", "-"],
@@ -64,7 +66,7 @@ fn a_full_disk() {
 #[test]
 fn no_room_for_complaints() {
     let folder = Folder::new("no_room_for_complaints");
-    for call in [&["check", "nowhere"][..], &["explain", "29"], &[]] {
+    for call in [&["check", "nowhere"][..], &["explain", "30"], &["stream", "track.mp4"], &[]] {
         let ran = Ran::of(command(&folder, call).stderr(full()).output().unwrap());
         assert_eq!((ran.status, ran.out.as_str()), (2, ""), "{call:?}");
     }

@@ -4,4 +4,5 @@ mod drawn;
 mod examples;
 mod judge;
 mod long;
+mod pieces;
 mod total;

@@ -1,0 +1,65 @@
+//! The rows `pieces` of `trials bench`: a good track in pieces of one length beside the same
+//! judge's track check of the joined bytes, in turn, the best of many.
+
+use crate::drawn::AMPLE;
+use crate::judge::Judge;
+use crate::tracks::{crowded, full, large, one_data_box, Shape};
+use maker::cases::Job;
+use maker::node::{self, Node};
+use std::hint::black_box;
+use std::time::{Duration, Instant};
+
+const PATIENCE: Duration = Duration::from_millis(2000);
+const LEAST_ROUNDS: usize = 9;
+/// What pieces may take: so many times the whole, and so many nanoseconds for each piece.
+const TIMES: f64 = 2.0;
+const A_PIECE: f64 = 30.0;
+
+pub fn bench(tried: Judge) -> Result<(), String> {
+    println!("pieces beside the whole slice, nanoseconds, best of many");
+    println!(
+        "{:48} {:>9} {:>12} {:>12} {:>9} {:>9}",
+        "input", "pieces", "in pieces", "whole", "a piece", "within"
+    );
+    row(tried, "500 MiB, 4,096 boxes, pieces of 64 KiB", full(500 << 20), 1 << 16)?;
+    row(tried, "500 MiB, few large, pieces of 64 KiB", large(500 << 20, Shape::FewLarge), 1 << 16)?;
+    row(tried, "1 MiB, 582 fragments, pieces of 1,500", full((1 << 20) - (250 << 10)), 1500)?;
+    row(tried, "582 fragments, pieces of 1 byte", large(0, Shape::ManyFragments), 1)?;
+    row(tried, "4,096 boxes, pieces of 1 byte", crowded(), 1)?;
+    row(tried, "a data box of 30 KiB, pieces of 1 byte", one_data_box(30 << 10), 1)
+}
+
+/// Prints a line.
+fn row(tried: Judge, name: &str, boxes: Vec<Node>, step: usize) -> Result<(), String> {
+    let bytes = node::bytes(&boxes);
+    let answer = tried.form().steps(&bytes, step);
+    if answer != reference::pieces_whole(&bytes) || answer.verdict.number != 0 {
+        return Err(format!("{name}: {answer:?}"));
+    }
+    let mut table = vec![0; AMPLE];
+    let [mut in_pieces, mut whole] = [f64::INFINITY; 2];
+    let started = Instant::now();
+    let mut rounds = 0;
+    while rounds < LEAST_ROUNDS || started.elapsed() < PATIENCE {
+        in_pieces = in_pieces.min(time(|| {
+            black_box(tried.form().steps(black_box(&bytes), step));
+        }));
+        whole = whole.min(time(|| {
+            black_box(tried.judge(Job::Track, black_box(&bytes), black_box(&mut table)));
+        }));
+        rounds += 1;
+    }
+    let pieces = bytes.len().div_ceil(step) as f64;
+    let limit = TIMES * whole + A_PIECE * pieces;
+    let within = if in_pieces <= limit { "yes" } else { "NO" };
+    let each = in_pieces / pieces;
+    println!("{name:48} {pieces:>9} {in_pieces:>12.0} {whole:>12.0} {each:>9.2} {within:>9}");
+    Ok(())
+}
+
+/// Nanoseconds of one call.
+fn time(call: impl FnOnce()) -> f64 {
+    let start = Instant::now();
+    call();
+    start.elapsed().as_nanos() as f64
+}
