@@ -92,6 +92,8 @@ report-test: ## the report in a browser (cargo, python3, chromium)
 vectors: ## writes the gate's cases anew: the reference's, the samples', the fuzzer's (cargo, python3)
 	cd rust/vectors && cargo run --quiet --release --manifest-path ../Cargo.toml -p trials --no-default-features -- \
 	    vectors --seed 1
+	cd rust/vectors && cargo run --quiet --release --manifest-path ../Cargo.toml -p trials --no-default-features -- \
+	    lines < fuzz-cases.bin > fuzz-expected.txt
 	cp rust/vectors/cases.bin crates/vectors/stdin
 	cp rust/vectors/expected.txt crates/vectors/stdout
 	samples/cases crates/vectors/stdin crates/vectors/stdout

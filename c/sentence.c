@@ -22,16 +22,15 @@ const char *flangemint_sentence(uint64_t number) {
         "stts, stsc, stsz or stco lists samples, which in a CMAF header must not be; or stsd has not exactly "
         "one entry.",
         "moof needs one mfhd and one traf; traf needs one tfhd, one tfdt and at least one trun.",
-        "A box of the fragment doesn't have the size that its version, its flags and its sample count ask "
-        "for.",
+        "A box of the chunk doesn't have the size that its version, its flags and its sample count ask for.",
         "tfhd carries a base data offset (0x1) or says that it has no samples (0x10000), or does not say that "
         "offsets count from the moof (0x20000); or a trun has both first-sample flags (0x4) and flags for "
         "each sample (0x400).",
         "The track ID in tfhd differs from the one in tkhd.",
-        "The fragment has no sample at all, or more than 65,536.",
-        "The fragment doesn't start where the one before ended.",
-        "The durations of the fragment sum to 0; or it ends after tick 2^63 - 1.",
-        "The first sample of the fragment is marked non-sync (0x00010000 in its flags).",
+        "The chunk has no sample at all, or more than 65,536.",
+        "The chunk doesn't start where the one before ended.",
+        "The durations of the chunk sum to 0; or it ends after tick 2^63 - 1.",
+        "The first sample of the track's first chunk is marked non-sync (0x00010000 in its flags).",
         "The sample sizes, the data offsets and the mdat don't agree.",
         "The caller lent a table of fewer than F + 1 numbers, or for the index fewer than four a box.",
         "The bundle isn't a row of 1 to 16 records, each with the mark 53 57 (SW), a four-byte length and so "

@@ -16,6 +16,9 @@
  * the index (offset, whole size, type as a number, depth), count + 1 boundaries in ticks for a
  * track or a set. On a refusal `table` is as it was.
  *
+ * A chunk is a moof and its mdat. One whose first sample is sync begins a fragment, any other continues it.
+ * The boundaries are the start of each fragment and the end of the last.
+ *
  * A track that arrives in pieces has a form of its own, struct flangemint_pieces below.
  *
  * No function allocates, keeps a pointer, reads outside its arguments or fails to return.
@@ -45,9 +48,10 @@ extern "C" {
 /*
  * How many numbers a table needs so that it is never too short. The index has four a box. Of an accepted
  * track's boxes at least 20 are the header's (ftyp, moov, mvhd, trak, tkhd, mdia, mdhd, hdlr, minf, its media
- * header, dinf, dref, stbl, stsd, stts, stsc, stsz, stco, mvex, trex), and each fragment has at least 7 (moof,
- * mfhd, traf, tfhd, tfdt, trun, mdat); there is one boundary more than there are fragments. The tracks of an
- * accepted set share theirs. (This counts boxes; it is not proved. Were it wrong, the answer would be FLANGEMINT_ROOM.)
+ * header, dinf, dref, stbl, stsd, stts, stsc, stsz, stco, mvex, trex), and each chunk has at least 7 (moof, mfhd,
+ * traf, tfhd, tfdt, trun, mdat); a fragment has at least one chunk, and there is one boundary more than there are
+ * fragments. The tracks of an accepted set share theirs. (This counts boxes; it is not proved. Were it wrong, the
+ * answer would be FLANGEMINT_ROOM.)
  */
 #define FLANGEMINT_INDEX_ROOM (4 * FLANGEMINT_MAX_BOXES)
 #define FLANGEMINT_TRACK_ROOM ((FLANGEMINT_MAX_BOXES - 20) / 7 + 1)
@@ -68,21 +72,21 @@ enum flangemint_number {
     FLANGEMINT_TRACK_ID = 11,           /* track ID 0, or trex has another: tkhd, trex */
     FLANGEMINT_HANDLER_PAIRING = 12,    /* handler and media header don't pair: hdlr */
     FLANGEMINT_SAMPLE_TABLE = 13,       /* a sample table not empty, or stsd entry count not 1: the box */
-    FLANGEMINT_FRAGMENT_COUNT = 14,     /* fragment box missing or extra: its container, or the first extra box */
-    FLANGEMINT_FRAGMENT_BODY = 15,      /* fragment box of a wrong size or version: the box */
+    FLANGEMINT_CHUNK_COUNT = 14,        /* chunk box missing or extra: its container, or the first extra box */
+    FLANGEMINT_CHUNK_BODY = 15,         /* chunk box of a wrong size or version: the box */
     FLANGEMINT_FLAGS = 16,              /* forbidden or missing flag: the box */
-    FLANGEMINT_FRAGMENT_TRACK_ID = 17,  /* tfhd track ID differs from tkhd: tfhd */
-    FLANGEMINT_SAMPLE_COUNT = 18,       /* samples in the fragment not 1 to 65,536: traf */
-    FLANGEMINT_START = 19,              /* start differs from the previous end: tfdt */
-    FLANGEMINT_DURATION = 20,           /* duration 0, or an end over 2^63 - 1: first trun */
-    FLANGEMINT_NON_SYNC = 21,           /* first sample is non-sync: first trun */
+    FLANGEMINT_CHUNK_TRACK_ID = 17,     /* tfhd track ID differs from tkhd: tfhd */
+    FLANGEMINT_SAMPLE_COUNT = 18,       /* samples in the chunk not 1 to 65,536: traf */
+    FLANGEMINT_START = 19,              /* start of a later chunk differs from the end of the one before: tfdt */
+    FLANGEMINT_DURATION = 20,           /* chunk of duration 0, or with an end over 2^63 - 1: its first trun */
+    FLANGEMINT_NON_SYNC = 21,           /* first sample of the track's first chunk is non-sync: its first trun */
     FLANGEMINT_TILING = 22,             /* sample bytes don't tile the data box: the first wrong trun, or mdat */
     FLANGEMINT_ROOM = 23,               /* table too short for the numbers to write: 0 */
     FLANGEMINT_BUNDLE = 24,             /* no record, over 16, or a bad one: its start in the bundle */
     FLANGEMINT_HANDLER_DIFFERS = 25,    /* handler differs from track 0: hdlr */
     FLANGEMINT_TIMESCALE_DIFFERS = 26,  /* timescale differs from track 0: mdhd */
     FLANGEMINT_FRAGMENTS_DIFFER = 27,   /* number of fragments differs from track 0: the track's length */
-    FLANGEMINT_BOUNDARY_DIFFERS = 28,   /* a boundary differs from track 0: moof of that fragment, or of the last */
+    FLANGEMINT_BOUNDARY_DIFFERS = 28,   /* a boundary differs from track 0: that fragment's first moof, or the last's */
     FLANGEMINT_LARGE_BOX = 29           /* in pieces: top-level ftyp, moov or moof over 32,768 bytes: the box */
 };
 
@@ -92,7 +96,7 @@ enum flangemint_number {
 /* Lists the boxes of a slice: numbers 0 to 5 and 23. */
 void flangemint_index(const uint8_t *data, size_t len, uint64_t *table, size_t room, uint64_t verdict[5]);
 
-/* Checks one track, header and fragments: numbers 0 to 23. */
+/* Checks one track, header and chunks: numbers 0 to 23. */
 void flangemint_track(const uint8_t *data, size_t len, uint64_t *table, size_t room, uint64_t verdict[5]);
 
 /* Checks a switching set, a bundle of 1 to 16 tracks: numbers 0 to 28. */

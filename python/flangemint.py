@@ -58,7 +58,7 @@ class Verdict:
         """What the number means, in one sentence.
 
         >>> Verdict(19, 0, 2419, 0, 0).sentence
-        "The fragment doesn't start where the one before ended."
+        "The chunk doesn't start where the one before ended."
         """
         return _library().flangemint_sentence(self.number).decode("ascii")
 
@@ -103,7 +103,7 @@ class NotBuilt(Exception):
 
 
 def check_track(data):
-    """The verdict on one track, header and fragments (numbers 0 to 22)."""
+    """The verdict on one track, header and chunks (numbers 0 to 22)."""
     return _checked("flangemint_track", data)
 
 

@@ -297,7 +297,7 @@ static void other_job(void)
     }
 }
 
-/* Each first run's offset as rule 22 wants it, for the fragments as they now are. */
+/* Each first run's offset as rule 22 wants it, for the chunks as they now are. */
 static void repair_offsets(void)
 {
     size_t moof = 0, first = 0;
@@ -315,7 +315,7 @@ static void repair_offsets(void)
     }
 }
 
-/* Starts as rule 19 wants them: where the judge refuses one, it is asked where the fragments before it end. */
+/* Starts as rule 19 wants them: where the judge refuses one, it is asked where the chunks before it end. */
 static void repair_starts(size_t start, size_t end)
 {
     for (int times = 0; times < 4; times++) {

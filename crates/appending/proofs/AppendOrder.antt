@@ -1,4 +1,4 @@
--- The order of an appended slice goes on from the stage that the front has reached; its fragments are the front's and the rest's, moved.
+-- The order of an appended slice goes on from the stage that the front has reached; its chunks are the front's and the rest's, moved.
 use mathlib.Core.Path.{_≡_, refl, ap, ap₂, subst, _∙_}
 use mathlib.Core.Bool.{Bool, true, false}
 use mathlib.Core.List.{List, [], _∷_, _++_, map}
@@ -10,7 +10,7 @@ use Rattle.rules.specs.Kinds.{moof}
 use Rattle.rules.specs.Rules.{moved}
 use Rattle.rules.specs.Boxes.{Box, boxes, placesOf}
 use Rattle.rules.specs.Order.{step6, onStepped, orderFrom, rule6}
-use Rattle.rules.specs.Track.{fragmentsFrom, fragments}
+use Rattle.rules.specs.Track.{chunksFrom, chunks}
 use Rattle.rules.specs.declared.Stage.{Stage}
 use Rattle.rules.specs.declared.Stage.the-variants.{Start, Typed, Headed, Halved, Paired}
 use Rattle.rules.specs.declared.Stepped.{Stepped}
@@ -173,14 +173,14 @@ places-on c k (x ∷ xs) = go (eqb (x .kind) k) (places-on c k xs)
     go true e = ap (λ (ps : List ℕ). (c + x .at) ∷ ps) e
     go false e = e
 
--- the fragments behind the front, and those of an appended slice
-pub fragments-behind : (a b : List ℕ) (at : ℕ) → fragmentsFrom (a ++ b) (length a + at) ≡ map (λ x. length a + x) (fragmentsFrom b at)
-unfolding fragmentsFrom
-fragments-behind a b at = ap (placesOf moof) (boxes-behind a b at) ∙ places-on (length a) moof (boxes b at)
+-- the chunks behind the front, and those of an appended slice
+pub chunks-behind : (a b : List ℕ) (at : ℕ) → chunksFrom (a ++ b) (length a + at) ≡ map (λ x. length a + x) (chunksFrom b at)
+unfolding chunksFrom
+chunks-behind a b at = ap (placesOf moof) (boxes-behind a b at) ∙ places-on (length a) moof (boxes b at)
 
-pub fragments-append : (a b : List ℕ) → EndsOnBox a → fragments (a ++ b) ≡ fragments a ++ map (λ x. length a + x) (fragments b)
-unfolding fragmentsFrom
-fragments-append a b c =
+pub chunks-append : (a b : List ℕ) → EndsOnBox a → chunks (a ++ b) ≡ chunks a ++ map (λ x. length a + x) (chunks b)
+unfolding chunksFrom
+chunks-append a b c =
     ap (placesOf moof) (boxes-append a b c)
     ∙ places-joined moof (boxes a 0) (map (boxOn (length a)) (boxes b 0))
-    ∙ ap (λ (xs : List ℕ). fragments a ++ xs) (places-on (length a) moof (boxes b 0))
+    ∙ ap (λ (xs : List ℕ). chunks a ++ xs) (places-on (length a) moof (boxes b 0))

@@ -1,4 +1,4 @@
--- A box cut out of a slice is one box by itself; a fragment cut out, with its data box, is under the rules that it was under, moved.
+-- A box cut out of a slice is one box by itself; a chunk cut out, with its data box, is under the rules that it was under, moved.
 use mathlib.Core.Path.{_≡_, refl, sym, ap, ap₂, subst, _∙_}
 use mathlib.Core.Bool.{Bool, true, false}
 use mathlib.Core.List.{List, [], _∷_, _++_, map}
@@ -11,7 +11,7 @@ use Rattle.numbers.specs.Numbers.{be4, be8, when}
 use Rattle.numbers.proofs.Bounds.{Reads, reads4, reads8, in-drop, in-take}
 use Rattle.rules.specs.Rules.{moved}
 use Rattle.rules.specs.Boxes.{Box, part, look, boxes, headOf, sizeOf, whole}
-use Rattle.rules.specs.Fragment.{shape, timing, startOf, endOf}
+use Rattle.rules.specs.Chunk.{shape, timing, startOf, endOf}
 use Rattle.rules.specs.Track.{mdatAt, shapeAt, timingAt, startAt, endAt}
 use Rattle.rules.specs.declared.Look.the-variants.{Nothing}
 use Rattle.rules.specs.declared.Path.the-variants.{Top}
@@ -21,7 +21,7 @@ use Rattle.rules.proofs.Then.{moved-by-0}
 use Rattle.rules.proofs.Forest.{FoundBox, look-nothing, forest-box, forest-nothing, boxes-box, boxes-nothing}
 use Rattle.appending.proofs.Front.{found-look, whole-front, head-behind, size-behind}
 use Rattle.appending.proofs.Append.{boxOn, Closed, EndsOnBox, boxes-append, ends-append}
-use Rattle.appending.proofs.AppendTrack.{FragmentAt}
+use Rattle.appending.proofs.AppendTrack.{ChunkAt}
 
 -- a slice that is one box: its boxes are that box, it ends on it, and the box's bytes are the slice
 module _ (b : List ℕ) (h k : ℕ) (d : FoundBox b 0 h (length b) k) where
@@ -90,11 +90,11 @@ module _ (s : List ℕ) (at h z k : ℕ) (d : FoundBox s at h z k) where
   pub size-cut : sizeOf (whole s at) 0 ≡ sizeOf s at
   size-cut = found-cut .size ∙ sym (d .size)
 
--- a fragment cut out with its data box
-unfoldable pub fragmentCut : List ℕ → ℕ → List ℕ
-fragmentCut s x = whole s x ++ whole s (mdatAt s x)
+-- a chunk cut out with its data box
+unfoldable pub chunkCut : List ℕ → ℕ → List ℕ
+chunkCut s x = whole s x ++ whole s (mdatAt s x)
 
-module _ (s : List ℕ) (x : ℕ) (f : FragmentAt s x) where
+module _ (s : List ℕ) (x : ℕ) (f : ChunkAt s x) where
   -- its two boxes
   moof-is : FoundBox (whole s x) 0 (f .0 .0) (length (whole s x)) (f .0 .2)
   moof-is = let d = f .0 in found-alone s x (d .0) (d .1) (d .2) (d .3)
@@ -103,17 +103,17 @@ module _ (s : List ℕ) (x : ℕ) (f : FragmentAt s x) where
   mdat-is = let d = f .1 in found-alone s (mdatAt s x) (d .0) (d .1) (d .2) (d .3)
 
   -- it ends on a box, and its boxes are those two, one behind the other
-  pub cut-ends : EndsOnBox (fragmentCut s x)
-  unfolding fragmentCut
+  pub cut-ends : EndsOnBox (chunkCut s x)
+  unfolding chunkCut
   cut-ends =
       ends-append (whole s x) (whole s (mdatAt s x)) (one-ends (whole s x) (f .0 .0) (f .0 .2) moof-is)
       (one-ends (whole s (mdatAt s x)) (f .1 .0) (f .1 .2) mdat-is)
 
-  pub cut-boxes : boxes (fragmentCut s x) 0
+  pub cut-boxes : boxes (chunkCut s x) 0
       ≡ record { at = 0; inner = f .0 .0; size = length (whole s x); kind = f .0 .2 }
       ∷ boxOn (length (whole s x)) (record { at = 0; inner = f .1 .0; size = length (whole s (mdatAt s x)); kind = f .1 .2 })
       ∷ []
-  unfolding fragmentCut
+  unfolding chunkCut
   cut-boxes =
       let m = whole s x in
       let p = whole s (mdatAt s x) in
@@ -122,41 +122,41 @@ module _ (s : List ℕ) (x : ℕ) (f : FragmentAt s x) where
       (one-box p (f .1 .0) (f .1 .2) mdat-is)
 
   -- its bytes, and where its data box stands
-  bytes-cut : whole (fragmentCut s x) 0 ≡ whole s x
-  unfolding fragmentCut
+  bytes-cut : whole (chunkCut s x) 0 ≡ whole s x
+  unfolding chunkCut
   bytes-cut =
       whole-front (whole s x) (whole s (mdatAt s x)) 0 (f .0 .0) (length (whole s x)) (f .0 .2) moof-is
       ∙ one-whole (whole s x) (f .0 .0) (f .0 .2) moof-is
 
-  mdat-at-cut : mdatAt (fragmentCut s x) 0 ≡ length (whole s x) + 0
+  mdat-at-cut : mdatAt (chunkCut s x) 0 ≡ length (whole s x) + 0
   unfolding mdatAt
-  mdat-at-cut = let e : length (whole (fragmentCut s x) 0) ≡ length (whole s x) = ap length bytes-cut in omega (arith, e)
+  mdat-at-cut = let e : length (whole (chunkCut s x) 0) ≡ length (whole s x) = ap length bytes-cut in omega (arith, e)
 
-  mdat-head-cut : headOf (fragmentCut s x) (length (whole s x) + 0) ≡ headOf s (mdatAt s x)
-  unfolding fragmentCut
+  mdat-head-cut : headOf (chunkCut s x) (length (whole s x) + 0) ≡ headOf s (mdatAt s x)
+  unfolding chunkCut
   mdat-head-cut =
       let d = f .1 in head-behind (whole s x) (whole s (mdatAt s x)) 0 ∙ head-cut s (mdatAt s x) (d .0) (d .1) (d .2) (d .3)
 
-  mdat-size-cut : sizeOf (fragmentCut s x) (length (whole s x) + 0) ≡ sizeOf s (mdatAt s x)
-  unfolding fragmentCut
+  mdat-size-cut : sizeOf (chunkCut s x) (length (whole s x) + 0) ≡ sizeOf s (mdatAt s x)
+  unfolding chunkCut
   mdat-size-cut =
       let d = f .1 in size-behind (whole s x) (whole s (mdatAt s x)) 0 ∙ size-cut s (mdatAt s x) (d .0) (d .1) (d .2) (d .3)
 
   -- its start, its end and its rules
-  pub start-cut : startAt (fragmentCut s x) 0 ≡ startAt s x
+  pub start-cut : startAt (chunkCut s x) 0 ≡ startAt s x
   unfolding startAt
   start-cut = ap startOf bytes-cut
 
-  pub end-cut : (h : Header) → endAt (fragmentCut s x) h 0 ≡ endAt s h x
+  pub end-cut : (h : Header) → endAt (chunkCut s x) h 0 ≡ endAt s h x
   unfolding endAt
   end-cut h = ap (λ (m : List ℕ). endOf m (h .defaults)) bytes-cut
 
-  pub shape-cut : (h : Header) → shapeAt s h x ≡ moved x (shapeAt (fragmentCut s x) h 0)
+  pub shape-cut : (h : Header) → shapeAt s h x ≡ moved x (shapeAt (chunkCut s x) h 0)
   unfolding shapeAt
   shape-cut h =
-      ap (moved x) (sym (moved-by-0 (shape (whole (fragmentCut s x) 0) (h .id)) ∙ ap (λ (m : List ℕ). shape m (h .id)) bytes-cut))
+      ap (moved x) (sym (moved-by-0 (shape (whole (chunkCut s x) 0) (h .id)) ∙ ap (λ (m : List ℕ). shape m (h .id)) bytes-cut))
 
-  pub timing-cut : (h : Header) (prev : Previous) → timingAt s h prev x ≡ moved x (timingAt (fragmentCut s x) h prev 0)
+  pub timing-cut : (h : Header) (prev : Previous) → timingAt s h prev x ≡ moved x (timingAt (chunkCut s x) h prev 0)
   unfolding timingAt
   timing-cut h prev =
       let m = mdatAt s x in

@@ -17,7 +17,7 @@ use Rattle.rules.specs.Rules.{_then_, must, onRule}
 use Rattle.rules.specs.Boxes.{Box, Forest, bad, node, part, lookAt, look, inside, within, forest, boxes, sizeOf, kindOf, whole}
 use Rattle.rules.specs.Framing.{onFraming, rule5, framing, framingRule}
 use Rattle.rules.specs.Order.{ordered, step6, onStepped, rule6}
-use Rattle.rules.specs.Track.{rule1, headerOf, fragments, fragmentCount, timescale, startAt, firstTickOf, lastEnd, endList, endOfTrack, ticks, boundaries, rulesOfHeader, rulesOfFragments}
+use Rattle.rules.specs.Track.{rule1, headerOf, chunks, syncAt, inFragments, fragments, firstMoofs, fragmentCount, timescale, startAt, firstTickOf, lastEnd, endList, endOfTrack, ticks, boundaries, rulesOfHeader, rulesOfChunks}
 use Rattle.rules.specs.Course.{judgedBy, waiting, brought, spotOf, stageOf, andBox, courseFrom, courseEnd, courseOf, factsOf}
 use Rattle.rules.specs.Pieces.{large, with29, framedWith29, rulingInPieces, firstBoundary, lastBoundary, acceptedBetween, refusedAs, answerFor}
 use Rattle.rules.specs.declared.Course.{Course}
@@ -225,24 +225,28 @@ module _ (s : List ℕ) where
   rest-whole = rest-comes (On Start) 0 0 (omega arith)
 
   -- the first boundary is the first start
-  first-is : firstBoundary s ≡ startValue (firstTickOf s (fragments s))
-  unfolding firstBoundary boundaries ticks lastEnd
-  first-is = by (fragments s)
+  first-is : firstBoundary s ≡ startValue (firstTickOf s (chunks s))
+  unfolding firstBoundary boundaries ticks lastEnd inFragments
+  first-is = by (chunks s)
     where
-      by : (xs : List ℕ) → getD (map (startAt s) xs ++ endList (lastEnd s (headerOf s) Unset xs)) 0 0 ≡ startValue (firstTickOf s xs)
+      by : (xs : List ℕ)
+          → getD (map (startAt s) (firstMoofs (inFragments (syncAt s (headerOf s)) xs)) ++ endList (lastEnd s (headerOf s) Unset xs)) 0 0
+          ≡ startValue (firstTickOf s xs)
       by [] = refl
       by (x ∷ xs) = refl
 
   -- and the last boundary the last end
   last-is : lastBoundary s ≡ endValue (endOfTrack s)
-  unfolding lastBoundary boundaries ticks fragmentCount
+  unfolding lastBoundary boundaries ticks fragmentCount fragments
   last-is = by (endOfTrack s)
     where
-      by : (e : Previous) → getD (map (startAt s) (fragments s) ++ endList e) (length (fragments s)) 0 ≡ endValue e
+      by : (e : Previous) → getD (map (startAt s) (firstMoofs (fragments s)) ++ endList e) (length (fragments s)) 0 ≡ endValue e
       by e =
-          let seam : length (fragments s) ≡ length (map (startAt s) (fragments s)) + 0 = omega (arith, length-map (fragments s) (startAt s)) in
-          ap (λ (i : ℕ). getD (map (startAt s) (fragments s) ++ endList e) i 0) seam
-          ∙ getD-append-add (map (startAt s) (fragments s)) (endList e) 0 0
+          let moofs = firstMoofs (fragments s) in
+          let many : length moofs ≡ length (fragments s) = length-map (fragments s) (λ f. f .first) in
+          let seam : length (fragments s) ≡ length (map (startAt s) moofs) + 0 = omega (arith, length-map moofs (startAt s), many) in
+          ap (λ (i : ℕ). getD (map (startAt s) moofs ++ endList e) i 0) seam
+          ∙ getD-append-add (map (startAt s) moofs) (endList e) 0 0
           ∙ value e
         where
           value : (e : Previous) → getD (endList e) 0 0 ≡ endValue e

@@ -14,7 +14,7 @@ use Rattle.rules.specs.Limits.{byteLimit, boxLimit, gatherLimit}
 use Rattle.rules.specs.Rules.{_then_, moved}
 use Rattle.rules.specs.Boxes.{Box, headOf, sizeOf}
 use Rattle.rules.specs.Header.{headerRules}
-use Rattle.rules.specs.Fragment.{shape, timing}
+use Rattle.rules.specs.Chunk.{shape, timing}
 use Rattle.rules.specs.Order.{ordered, awaits, step6, onStepped}
 use Rattle.rules.specs.Course.{judgedBy, openedFacts, opened, grown, joined, stageOf, spotOf, brought, andBox}
 use Rattle.rules.specs.Pieces.{gathered, large}
@@ -33,6 +33,7 @@ use Rattle.rules.specs.declared.Stage.the-variants as stage
 use Rattle.rules.specs.declared.Stepped.{Stepped}
 use Rattle.rules.specs.declared.Stepped.the-variants.{To, Wrong}
 use Rattle.boxes.specs.Stands.{WholeBox}
+use Rattle.rules.proofs.OnePass.{grown-few}
 use Rattle.track.specs.Course.{FewFragments, CourseFits}
 use Rattle.pieces.specs.State.{soundCourse, halved, keptMoof}
 use Rattle.pieces.specs.Steps.{waitsIn}
@@ -63,15 +64,15 @@ few-opened f at m n = by (headerRules at f m)
     by Holds = omega arith
     by (Breaks k t p) = tt
 
--- a fragment is one more
+-- a chunk brings one more at most
 few-joined : (j : Judged) (x : ℕ) (m : List ℕ) (h p n : ℕ) → Few j n → Few (joined j x m h p) (n + 1)
-unfolding joined grown judgedBy
+unfolding joined judgedBy
 few-joined (Refused k t q) x m h p n l = tt
 few-joined (Accepted f) x m h p n l =
     by (moved x (shape m (f .header .id)) then moved x (timing m (f .header .defaults) h p (f .end)))
   where
     by : (r : Rule) → Few (judgedBy r (grown f m)) (n + 1)
-    by Holds = omega arith
+    by Holds = omega (arith, grown-few f m)
     by (Breaks k t p) = tt
 
 -- after a box that is gathered, where none waited

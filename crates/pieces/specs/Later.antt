@@ -3,7 +3,7 @@ use Prim.Native.Nat.{ℕ}
 use mathlib.Core.List.{List, [], _∷_, _++_, map}
 use mathlib.Core.Path.{_≡_, refl}
 use Rattle.rules.specs.Kinds.{moov, moof, mdat}
-use Rattle.rules.specs.Bytes.{in4, in8, boxed, header, fragment}
+use Rattle.rules.specs.Bytes.{in4, in8, boxed, header, chunk}
 use Rattle.rules.specs.Boxes.{end, node}
 use Rattle.rules.specs.Framing.{framing}
 use Rattle.rules.specs.Examples.{free}
@@ -17,7 +17,7 @@ use Rattle.rules.specs.declared.Rule.the-variants.{Breaks}
 
 -- T with its second `tfdt` 180001: 768 bytes in which one value is wrong
 unfoldable pub lateT : List ℕ
-lateT = header ++ fragment 0 108 30 ++ fragment 180001 108 30
+lateT = header ++ chunk 0 108 30 ++ chunk 180001 108 30
 
 -- what may follow them, and what is answered for both together
 unfoldable pub behindLate : List (List ℕ × Answer)

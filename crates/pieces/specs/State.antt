@@ -58,6 +58,7 @@ factsFrom ns =
       mdhd = getD ns 13 0;
       hdlr = getD ns 14 0;
       fragments = getD ns 15 0;
+      plain = eqb (getD ns 23 0) 1;
       start = startFrom (getD ns 16 0) (getD ns 17 0);
       end = endFrom (getD ns 18 0) (getD ns 19 0);
     }

@@ -1,6 +1,7 @@
 // The state between two pieces, as numbers in the memory that the caller lends.
 ghost use mathlib.Core.Path.{_≡_};
 ghost use Prim.Native.Nat.{_<_};
+ghost use lib.Dec.{eqb};
 ghost use Rattle.pieces.specs.State.{phaseOf, low32, startFrom, endFrom, factsFrom, judgedFrom};
 ghost use Rattle.pieces.specs.State.{spotFrom, ofFtyp, courseBy, stateOf, movedOn};
 use rules::Course;
@@ -94,6 +95,13 @@ fn end_from(tag: u64, a: u64) -> Previous
     Previous::Unset
 }
 
+// Whether each chunk begins a fragment, by its number.
+fn plain_from(tag: u64) -> bool
+    ensures { λ r. ⌜ r ≡ eqb tag 1 ⌝ }
+{
+    tag == 1
+}
+
 // A number's low 32 bits.
 fn low32(n: u64) -> u32
     ensures { λ r. ⌜ r ≡ low32 n ⌝ }
@@ -118,11 +126,13 @@ fn facts_from(ns: &[u64; NUMBERS]) -> TrackFacts
     };
     let start = start_from(ns[16], ns[17]);
     let end = end_from(ns[18], ns[19]);
+    let plain = plain_from(ns[23]);
     TrackFacts {
         header,
         mdhd: ns[13],
         hdlr: ns[14],
         fragments: ns[15],
+        plain,
         start,
         end,
     }
@@ -250,6 +260,13 @@ fn of_end(end: Previous) -> Tagged
         Previous::Unset => Tagged { tag: 0, a: 0, b: 0 },
         Previous::End(e) => Tagged { tag: 1, a: e, b: 0 },
     }
+}
+
+// The number of whether each chunk begins a fragment.
+fn of_plain(plain: bool) -> u64
+    ensures { λ r. ⌜ eqb r 1 ≡ plain ⌝ }
+{
+    if plain { 1 } else { 0 }
 }
 
 // The number of what `ftyp` tells, as a course's case.
@@ -393,7 +410,7 @@ pub fn encode(st: Progress) -> [u64; NUMBERS]
                 m.at as u64,
                 m.head as u64,
                 m.size as u64,
-                0,
+                of_plain(f.plain),
             ]
         }
     }

@@ -3,7 +3,7 @@ use mathlib.Core.Path.{_≡_, refl}
 use mathlib.Core.List.{List, [], _∷_, _++_}
 use Prim.Native.Nat.{ℕ}
 use Rattle.rules.specs.Kinds.{mdat, tfdt, trun, vide, soun, vmhd, letters}
-use Rattle.rules.specs.Bytes.{in4, zeros, boxed, headerWith, header, run, moofOf, moofOf8, fragment, trackT, single, shifted}
+use Rattle.rules.specs.Bytes.{in4, zeros, boxed, headerWith, header, run, moofOf, moofOf8, chunk, trackT, single, shifted}
 use Rattle.rules.specs.Computed.{computed}
 use Rattle.rules.specs.Track.{ruling}
 use Rattle.rules.specs.Bundle.{tracks}
@@ -33,7 +33,7 @@ names-none = refl
 
 -- T's two fragments under another timescale
 unfoldable pub otherScale : List ℕ
-otherScale = headerWith 48000 vide vmhd ++ fragment 0 108 30 ++ fragment 180000 108 30
+otherScale = headerWith 48000 vide vmhd ++ chunk 0 108 30 ++ chunk 180000 108 30
 
 pub one-timescale : play (trackT ∷ otherScale ∷ []) (1 ∷ 1 ∷ []) ≡ passed (0 ∷ 180000 ∷ 360000 ∷ [])
 unfolding computed otherScale
@@ -62,7 +62,7 @@ clock-unset = refl
 
 -- T, its second fragment one tick late
 unfoldable pub late : List ℕ
-late = header ++ fragment 0 108 30 ++ fragment 180001 108 30
+late = header ++ chunk 0 108 30 ++ chunk 180001 108 30
 
 pub clock-is-met : play (trackT ∷ late ∷ []) (1 ∷ 0 ∷ []) ≡ passed (0 ∷ 180000 ∷ 360000 ∷ [])
 unfolding computed late
@@ -112,7 +112,7 @@ unfolding computed bareRun
 first-run-bare = refl
 
 -- tracks that break one of rules 1 to 18: 4 (the last byte cut off), 6 (a box between `moof` and `mdat`), 10 (timescale 0), 12 (handler
--- and media header don't pair), 14 (in a fragment that the plan doesn't come to); none of them plays
+-- and media header don't pair), 14 (in a chunk that the plan doesn't come to); none of them plays
 unfoldable pub cut : List ℕ
 cut = take 629 (single 0 108 30)
 
@@ -135,17 +135,17 @@ pub stuck-6 : play (between ∷ []) (0 ∷ []) ≡ stuck
 unfolding computed between
 stuck-6 = refl
 
-pub stuck-10 : play ((headerWith 0 vide vmhd ++ fragment 0 108 30) ∷ []) (0 ∷ []) ≡ stuck
+pub stuck-10 : play ((headerWith 0 vide vmhd ++ chunk 0 108 30) ∷ []) (0 ∷ []) ≡ stuck
 unfolding computed
 stuck-10 = refl
 
-pub stuck-12 : play ((headerWith 90000 soun vmhd ++ fragment 0 108 30) ∷ []) (0 ∷ []) ≡ stuck
+pub stuck-12 : play ((headerWith 90000 soun vmhd ++ chunk 0 108 30) ∷ []) (0 ∷ []) ≡ stuck
 unfolding computed
 stuck-12 = refl
 
--- a track whose second fragment has two `tfdt`: rule 14 there stops the player at the first fragment
+-- a track whose second chunk has two `tfdt`: rule 14 there stops the player at the first fragment
 unfoldable pub twoStarts : List ℕ
-twoStarts = header ++ fragment 0 108 30 ++ moofOf 180000 (boxed tfdt (zeros 8) ++ run 0 124 []) ++ boxed mdat (zeros 30)
+twoStarts = header ++ chunk 0 108 30 ++ moofOf 180000 (boxed tfdt (zeros 8) ++ run 0 124 []) ++ boxed mdat (zeros 30)
 
 pub breaks-14 : rulesBeforeTiming twoStarts ≡ Breaks 14 0 694
 unfolding computed twoStarts
@@ -160,7 +160,7 @@ pub set-accepted : setRuling (trackT ∷ trackT ∷ []) ≡ Holds
 unfolding computed
 set-accepted = refl
 
--- a non-sync first sample is refused under 21
+-- a non-sync first sample of the track's first chunk is refused under 21
 pub non-sync-refused : ruling (firstFlagged 0x1010000) ≡ Breaks 21 0 556
 unfolding computed firstFlagged
 non-sync-refused = refl

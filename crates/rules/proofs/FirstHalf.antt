@@ -7,7 +7,7 @@ use lib.ListN.{length, take, drop}
 use lib.Dec.{eqb}
 use borrow.Author.Tests.{eqb-true}
 use Rattle.rules.specs.Rules.{_then_, must, ofTrack}
-use Rattle.rules.specs.Track.{rule1, ruling, fragments, fragmentCount, timescale, boundaries}
+use Rattle.rules.specs.Track.{rule1, ruling, fragments, firstMoofs, fragmentCount, timescale, boundaries}
 use Rattle.rules.specs.Bundle.{rule24, tracks}
 use Rattle.rules.specs.Set.{hdlrAt, mdhdAt, handler, same, firstOr, rule28From, rule28, agrees, rulings, agree, track0, setRuling, bundleRuling}
 use Rattle.rules.specs.Player.{stuck, passed, play}
@@ -53,7 +53,7 @@ agrees-alike s₀ s r h =
       r,
       same-value 26 timescale mdhdAt s₀ s (then-first of26 (of27 then rule28 s₀ s) h₂),
       n,
-      same-ticks 0 (boundaries s₀) (boundaries s) (fragments s) (as-many s s₀ n) (then-second of27 (rule28 s₀ s) h₃),
+      same-ticks 0 (boundaries s₀) (boundaries s) (firstMoofs (fragments s)) (as-many s s₀ n) (then-second of27 (rule28 s₀ s) h₃),
     )
 
 -- tracks accepted one by one

@@ -29,17 +29,16 @@ pub or-second : (a b : Bool) → a ≡ false → (a || b) ≡ true → b ≡ tru
 or-second true b h k = absurd (true≢false h)
 or-second false b h k = k
 
--- five tests joined: they hold where each does, and each does where they hold
-module _ (a b c d e : Bool) where
-  pub all-on : a ≡ true → b ≡ true → c ≡ true → d ≡ true → e ≡ true → (a && b && c && d && e) ≡ true
-  all-on h₁ h₂ h₃ h₄ h₅ = rw (h₁, h₂, h₃, h₄, h₅)
+-- four tests joined: they hold where each does, and each does where they hold
+module _ (a b c d : Bool) where
+  pub all-on : a ≡ true → b ≡ true → c ≡ true → d ≡ true → (a && b && c && d) ≡ true
+  all-on h₁ h₂ h₃ h₄ = rw (h₁, h₂, h₃, h₄)
 
-  pub each-on : (a && b && c && d && e) ≡ true → (a ≡ true) × (b ≡ true) × (c ≡ true) × (d ≡ true) × (e ≡ true)
+  pub each-on : (a && b && c && d) ≡ true → (a ≡ true) × (b ≡ true) × (c ≡ true) × (d ≡ true)
   each-on h =
-      let h₄ = and-first (a && b && c && d) e h in
-      let h₃ = and-first (a && b && c) d h₄ in
+      let h₃ = and-first (a && b && c) d h in
       let h₂ = and-first (a && b) c h₃ in
-      (and-first a b h₂, and-second a b h₂, and-second (a && b) c h₃, and-second (a && b && c) d h₄, and-second (a && b && c && d) e h)
+      (and-first a b h₂, and-second a b h₂, and-second (a && b) c h₃, and-second (a && b && c) d h)
 
 pub not-on : (a : Bool) → not a ≡ true → a ≡ false
 not-on true h = absurd (false≢true h)

@@ -5,6 +5,7 @@ pub mod Forest
 pub mod Walk
 pub mod FirstSeen
 pub mod OnePass
+pub mod Fragments
 pub mod Samples
 pub mod Stuck
 pub mod Tiling

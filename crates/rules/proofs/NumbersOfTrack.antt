@@ -1,18 +1,18 @@
 -- The numbers of a track's refusals, rule by rule: each group gives those of its own list.
 use mathlib.Core.Path.{_≡_, refl}
-use mathlib.Core.Bool.{Bool, true, false}
-use mathlib.Core.List.{List, [], _∷_}
+use mathlib.Core.Bool.{Bool, true, false, false≢true}
+use mathlib.Core.List.{List, [], _∷_, _++_}
 use Prim.Native.Nat.{ℕ}
 use lib.ListN.{length}
 use Rattle.rules.specs.Refusals.{member, among, lengthNumbers, framingNumbers, orderNumbers, headerNumbers, shapeNumbers, timingNumbers}
 use Rattle.rules.specs.Refusals.{frontNumbers, trackNumbers}
-use Rattle.rules.specs.Rules.{_then_}
+use Rattle.rules.specs.Rules.{_then_, must}
 use Rattle.rules.specs.Boxes.{Box, boxes}
 use Rattle.rules.specs.Framing.{framed, framingRule, rulesOfFraming}
 use Rattle.rules.specs.Order.{step6, onStepped, orderFrom, rule6}
 use Rattle.rules.specs.Header.{rule7, rule8ftyp, rule8, rule9, rule10, rule11, rule12, rule13, rulesOfValues, headerRules}
-use Rattle.rules.specs.Fragment.{rule14, rule15runs, rule15, rule16runs, rule16, rule17, rule18, shape, rule19, rule20, rule21, rule22runs, rule22, timing}
-use Rattle.rules.specs.Track.{rule1, rulesOfHeader, headerOf, fragments, shapeAt, timingAt, endAt, rulesOfFragments, ruling}
+use Rattle.rules.specs.Chunk.{rule14, rule15runs, rule15, rule16runs, rule16, rule17, rule18, shape, rule19, rule20, opens, rule21, rule22runs, rule22, timing}
+use Rattle.rules.specs.Track.{rule1, rulesOfHeader, headerOf, chunks, shapeAt, timingAt, endAt, rulesOfChunks, ruling}
 use Rattle.rules.specs.declared.Ftyp.{Ftyp}
 use Rattle.rules.specs.declared.Ftyp.the-variants as ftyp
 use Rattle.rules.specs.declared.Framing.{Framing}
@@ -47,7 +47,7 @@ n-header : (base : ℕ) (f : Ftyp) (m : List ℕ) → Numbered headerNumbers (he
 unfolding headerRules rule7 rule8 rulesOfValues rule10 rule11 rule12 rule13 member
 n-header base f m = search (joined, n-ftyp, n-brand) depth 40 fits 8000
 
--- a fragment
+-- a chunk
 n-15-runs : (m rs : List ℕ) → Numbered shapeNumbers (rule15runs m rs)
 unfolding rule15runs member
 n-15-runs m [] = n-holds
@@ -58,10 +58,14 @@ unfolding rule16runs member
 n-16-runs m [] = n-holds
 n-16-runs m (r ∷ rs) = n-then _ _ (n-must _ 16 _ refl) (n-16-runs m rs)
 
+n-22-in : {ns : List ℕ} → member 22 ns ≡ true → (m : List ℕ) (d : Defaults) (first : Bool) (e : ℕ) (rs : List ℕ) → Numbered ns (rule22runs m d first e rs)
+unfolding rule22runs
+n-22-in i m d first e [] = n-holds
+n-22-in i m d first e (r ∷ rs) = n-then _ _ (n-must _ 22 _ i) (n-22-in i m d false _ rs)
+
 n-22-runs : (m : List ℕ) (d : Defaults) (first : Bool) (e : ℕ) (rs : List ℕ) → Numbered timingNumbers (rule22runs m d first e rs)
-unfolding rule22runs member
-n-22-runs m d first e [] = n-holds
-n-22-runs m d first e (r ∷ rs) = n-then _ _ (n-must _ 22 _ refl) (n-22-runs m d false _ rs)
+unfolding member
+n-22-runs m d first e rs = n-22-in refl m d first e rs
 
 n-shape : (m : List ℕ) (id : ℕ) → Numbered shapeNumbers (shape m id)
 unfolding shape rule14 rule15 rule16 rule17 rule18 member
@@ -79,12 +83,38 @@ pub n-timing-at : (s : List ℕ) (h : Header) (prev : Previous) (x : ℕ) → Nu
 unfolding timingAt
 n-timing-at s h prev x = n-moved x _ (n-timing _ _ _ _ _)
 
-pub n-fragments : (s : List ℕ) (h : Header) (prev : Previous) (xs : List ℕ) → Numbered trackNumbers (rulesOfFragments s h prev xs)
-unfolding rulesOfFragments among member
-n-fragments s h prev [] = n-holds
-n-fragments s h prev (x ∷ xs) =
+pub n-chunks : (s : List ℕ) (h : Header) (prev : Previous) (xs : List ℕ) → Numbered trackNumbers (rulesOfChunks s h prev xs)
+unfolding rulesOfChunks among member
+n-chunks s h prev [] = n-holds
+n-chunks s h prev (x ∷ xs) =
     n-then _ _ (wider shapeNumbers trackNumbers _ refl (n-shape-at s h x))
-    (n-then _ _ (wider timingNumbers trackNumbers _ refl (n-timing-at s h prev x)) (n-fragments s h (End (endAt s h x)) xs))
+    (n-then _ _ (wider timingNumbers trackNumbers _ refl (n-timing-at s h prev x)) (n-chunks s h (End (endAt s h x)) xs))
+
+-- behind the track's first chunk: all but 21
+abbrev pub laterNumbers : List ℕ
+laterNumbers = shapeNumbers ++ (19 ∷ 20 ∷ 22 ∷ [])
+
+n-21-later : (m : List ℕ) (d : Defaults) (e : ℕ) → Numbered laterNumbers (rule21 m d (End e))
+unfolding rule21 opens must
+n-21-later m d e = n-holds
+
+n-timing-later : (s : List ℕ) (h : Header) (e x : ℕ) → Numbered laterNumbers (timingAt s h (End e) x)
+unfolding timingAt timing rule19 rule20 rule22 member
+n-timing-later s h e x =
+    n-moved x _
+    (n-then _ _ (n-must _ 19 _ refl)
+    (n-then _ _ (n-must _ 20 _ refl) (n-then _ _ (n-21-later _ _ e) (n-then _ _ (n-22-in refl _ _ _ _ _) (n-must _ 22 _ refl)))))
+
+pub n-later : (s : List ℕ) (h : Header) (e : ℕ) (xs : List ℕ) → Numbered laterNumbers (rulesOfChunks s h (End e) xs)
+unfolding rulesOfChunks among member
+n-later s h e [] = n-holds
+n-later s h e (x ∷ xs) =
+    n-then _ _ (wider shapeNumbers laterNumbers _ refl (n-shape-at s h x)) (n-then _ _ (n-timing-later s h e x) (n-later s h (endAt s h x) xs))
+
+-- so 21 is the first chunk's alone
+pub only-first-21 : (s : List ℕ) (h : Header) (e : ℕ) (xs : List ℕ) (t p : ℕ) → rulesOfChunks s h (End e) xs ≡ Breaks 21 t p → ⊥
+unfolding member
+only-first-21 s h e xs t p b = false≢true (n-later s h e xs .told 21 t p b)
 
 -- the framing
 n-framing : (f : Framing) → FramingNumbered f → Told framingNumbers (framingRule f)
@@ -122,7 +152,7 @@ n-headed : (s : List ℕ) → Numbered headerNumbers (rulesOfHeader s)
 unfolding rulesOfHeader
 n-headed s = n-header _ _ _
 
--- and together, before what is said of the fragments
+-- and together, before what is said of the chunks
 pub n-front : (ns : List ℕ) (s : List ℕ) (q : Rule) → among frontNumbers ns ≡ true → Numbered ns q
     → Numbered ns (rule1 (length s) then rulesOfFraming s then rule6 s then rulesOfHeader s then q)
 unfolding among member
@@ -136,4 +166,4 @@ n-front ns s q w h =
 
 pub n-ruling : (s : List ℕ) → Numbered trackNumbers (ruling s)
 unfolding ruling among member
-n-ruling s = n-front trackNumbers s _ refl (n-fragments s (headerOf s) Unset (fragments s))
+n-ruling s = n-front trackNumbers s _ refl (n-chunks s (headerOf s) Unset (chunks s))

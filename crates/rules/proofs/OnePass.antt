@@ -1,8 +1,8 @@
--- The law of one pass: the course over a slice comes to rule 6, then the header's rules, then the fragments', with what is known of the track.
+-- The law of one pass: the course over a slice comes to rule 6, then the header's rules, then the chunks', with what is known of the track.
 use mathlib.Core.Path.{_≡_, refl, sym, ap, ap₂, subst, _∙_}
 use mathlib.Core.List.{List, [], _∷_}
-use mathlib.Core.Bool.{Bool, true, false, _||_, true≢false}
-use Prim.Native.Nat.{ℕ, _+_, _-_}
+use mathlib.Core.Bool.{Bool, true, false, _&&_, _||_, true≢false}
+use Prim.Native.Nat.{ℕ, _+_, _-_, _≤_}
 use native.Mathlib.Nat.{zero-add}
 use native.Mathlib.Omega.{arith}
 use lib.ListN.{length}
@@ -15,9 +15,10 @@ use Rattle.rules.specs.Boxes.{Box, boxes, placesOf, headOf, sizeOf, whol
 use Rattle.rules.specs.Counts.{wanted, seen, seenFrom, firstOf}
 use Rattle.rules.specs.Order.{ordered, awaits, step6, onStepped, orderFrom, rule6}
 use Rattle.rules.specs.Header.{ftypIn}
-use Rattle.rules.specs.Track.{moovAt, moovOf, ftypOf, headerOf, fragmentsFrom, fragments, fragmentCount, mdatAt, shapeAt, timingAt, startAt, endAt, firstTickOf, lastEnd, rulesOfFragments, rulesOfHeader}
+use Rattle.rules.specs.Chunk.{syncIn, beginsOne}
+use Rattle.rules.specs.Track.{moovAt, moovOf, ftypOf, headerOf, chunksFrom, chunks, fragmentCount, mdatAt, shapeAt, timingAt, startAt, endAt, firstTickOf, lastEnd, rulesOfChunks, rulesOfHeader, endOfTrack, syncAt, Fragment, continuing, begunAmong, inFragments, fragments}
 use Rattle.rules.specs.Set.{mdhdAt, hdlrAt}
-use Rattle.rules.specs.Course.{judgedBy, openedFacts, opened, orTick, grown, joined, stageOf, spotOf, brought, andBox, waiting, courseFrom, courseEnd, courseOf, factsOf}
+use Rattle.rules.specs.Course.{judgedBy, openedFacts, opened, orTick, grown, joined, stageOf, spotOf, brought, andBox, waiting, courseFrom, courseEnd, courseOf, factsOf, eachSync}
 use Rattle.rules.specs.declared.Course.{Course}
 use Rattle.rules.specs.declared.Course.the-variants.{On, Broken}
 use Rattle.rules.specs.declared.Entry.the-variants.{One}
@@ -26,6 +27,7 @@ use Rattle.rules.specs.declared.FirstTick.the-variants as firstTick
 use Rattle.rules.specs.declared.Ftyp.{Ftyp}
 use Rattle.rules.specs.declared.Judged.{Judged}
 use Rattle.rules.specs.declared.Judged.the-variants.{Accepted, Refused}
+use Rattle.rules.specs.declared.Previous.{Previous}
 use Rattle.rules.specs.declared.Previous.the-variants.{Unset, End}
 use Rattle.rules.specs.declared.Reached.{Reached}
 use Rattle.rules.specs.declared.Reached.the-variants.{Start, Typed, Headed, Halved, Paired}
@@ -57,11 +59,11 @@ behind-then (Breaks n t p) q f = refl
 abbrev openedAt : List ℕ → Ftyp → ℕ → Judged
 openedAt s f at = opened f at (whole s at)
 
--- the fragment at a place of a slice
+-- the chunk at a place of a slice
 unfoldable joinedAt : List ℕ → Judged → ℕ → Judged
 joinedAt s j x = joined j x (whole s x) (headOf s (mdatAt s x)) (sizeOf s (mdatAt s x) - headOf s (mdatAt s x))
 
--- fragments at places, one after the other
+-- chunks at places, one after the other
 unfoldable all : List ℕ → Judged → List ℕ → Judged
 all s j [] = j
 all s j (x ∷ xs) = all s (joinedAt s j x) xs
@@ -300,7 +302,7 @@ comes-to s len at c (x ∷ xs) y e =
     comes-to s len (at + x .size) next xs (y .2) (subst (Waits s next) (ap (λ (p : ℕ). p + x .size) (y .0)) (waits-next s x d own (waiting s c) c))
     ∙ sym (step s len x xs c d (rw (y .0) e))
 
--- fragments after a broken rule, and after rules that hold
+-- chunks after a broken rule, and after rules that hold
 all-refused : (s : List ℕ) (n t p : ℕ) (xs : List ℕ) → all s (Refused n t p) xs ≡ Refused n t p
 unfolding all joined joinedAt
 all-refused s n t p [] = refl
@@ -319,48 +321,96 @@ first-or-tick : (a : FirstTick) (n : ℕ) (b : FirstTick) → tickOr (orTick a n
 first-or-tick firstTick.Unset n b = refl
 first-or-tick (firstTick.Tick t) n b = refl
 
--- what is known after fragments at places
+-- the fragments that chunks at places begin, after an end before them
+abbrev begunAfter : Previous → (ℕ → Bool) → List ℕ → List Fragment
+begunAfter Unset sync xs = inFragments sync xs
+begunAfter (End e) sync xs = begunAmong sync xs
+
+begun-none : (prev : Previous) (sync : ℕ → Bool) → length (begunAfter prev sync []) ≡ 0
+unfolding inFragments begunAmong
+begun-none Unset sync = refl
+begun-none (End e) sync = refl
+
+begun-one : (prev : Previous) (sync : ℕ → Bool) (x : ℕ) (xs : List ℕ)
+    → when (beginsOne prev (sync x)) 1 0 + length (begunAmong sync xs) ≡ length (begunAfter prev sync (x ∷ xs))
+unfolding beginsOne inFragments begunAmong
+begun-one Unset sync x xs = omega arith
+begun-one (End e) sync x xs = by (sync x)
+  where
+    by : (b : Bool)
+        → when b 1 0 + length (begunAmong sync xs)
+        ≡ length (when b (record { first = x; others = continuing sync xs } ∷ begunAmong sync xs) (begunAmong sync xs))
+    by true = omega arith
+    by false = omega arith
+
+-- a chunk brings one fragment more at most
+at-most-one : (b : Bool) → when b 1 0 ≤ 1
+at-most-one true = omega arith
+at-most-one false = omega arith
+
+pub grown-few : (f : TrackFacts) (m : List ℕ) → grown f m .fragments ≤ f .fragments + 1
+unfolding grown
+grown-few f m = omega (arith, at-most-one (beginsOne (f .end) (syncIn m (f .header .defaults))))
+
+-- what is known after chunks at places
 unfoldable grownBy : List ℕ → TrackFacts → List ℕ → TrackFacts
 grownBy s f xs =
     record {
       header = f .header;
       mdhd = f .mdhd;
       hdlr = f .hdlr;
-      fragments = f .fragments + length xs;
+      fragments = f .fragments + length (begunAfter (f .end) (syncAt s (f .header)) xs);
+      plain = f .plain && eachSync (syncAt s (f .header)) xs;
       start = tickOr (f .start) (firstTickOf s xs);
       end = lastEnd s (f .header) (f .end) xs;
     }
 
+and-true : (a : Bool) → a ≡ (a && true)
+and-true true = refl
+and-true false = refl
+
+and-and : (a b c : Bool) → ((a && b) && c) ≡ (a && (b && c))
+and-and true b c = refl
+and-and false b c = refl
+
+-- facts with another count, another mark and another first start
+abbrev factsBy : TrackFacts → Previous → ℕ → Bool → FirstTick → TrackFacts
+factsBy f e n b a = record { header = f .header; mdhd = f .mdhd; hdlr = f .hdlr; fragments = n; plain = b; start = a; end = e }
+
 grown-none : (s : List ℕ) (f : TrackFacts) → f ≡ grownBy s f []
-unfolding grownBy lastEnd
+unfolding grownBy lastEnd eachSync
 grown-none s f =
-    ap₂ (λ (n : ℕ) (a : FirstTick). record { header = f .header; mdhd = f .mdhd; hdlr = f .hdlr; fragments = n; start = a; end = f .end }) (omega arith)
+    let n : f .fragments ≡ f .fragments + length (begunAfter (f .end) (syncAt s (f .header)) []) = omega (arith, begun-none (f .end) (syncAt s (f .header))) in
+    ap (λ (k : ℕ). factsBy f (f .end) k (f .plain) (f .start)) n
+    ∙ ap₂ (λ (b : Bool) (a : FirstTick). factsBy f (f .end) (f .fragments + length (begunAfter (f .end) (syncAt s (f .header)) [])) b a) (and-true (f .plain))
     (first-or-none (f .start))
 
 grown-on : (s : List ℕ) (f : TrackFacts) (x : ℕ) (xs : List ℕ) → grownBy s (grown f (whole s x)) xs ≡ grownBy s f (x ∷ xs)
-unfolding grownBy grown lastEnd startAt endAt
+unfolding grownBy grown lastEnd startAt endAt eachSync syncAt
 grown-on s f x xs =
-    ap₂
-    (λ (n : ℕ) (a : FirstTick). record { header = f .header; mdhd = f .mdhd; hdlr = f .hdlr; fragments = n; start = a; end = lastEnd s (f .header) (End (endAt s (f .header) x)) xs })
-    (omega arith)
-    (first-or-tick (f .start) (startAt s x) (firstTickOf s xs))
+    let sync : ℕ → Bool = syncAt s (f .header) in
+    let end = lastEnd s (f .header) (End (endAt s (f .header) x)) xs in
+    let was = f .fragments + when (beginsOne (f .end) (sync x)) 1 0 + length (begunAmong sync xs) in
+    let n : was ≡ f .fragments + length (begunAfter (f .end) sync (x ∷ xs)) = omega (arith, begun-one (f .end) sync x xs) in
+    ap₂ (λ (b : Bool) (a : FirstTick). factsBy f end was b a) (and-and (f .plain) (sync x) (eachSync sync xs)) (first-or-tick (f .start) (startAt s x) (firstTickOf s xs))
+    ∙ ap (λ (k : ℕ). factsBy f end k (f .plain && (sync x && eachSync sync xs)) (tickOr (f .start) (firstTick.Tick (startAt s x)))) n
 
 behind-rule : (s : List ℕ) (r : Rule) (f : TrackFacts) (xs : List ℕ)
-    → all s (Accepted f) xs ≡ judgedBy (rulesOfFragments s (f .header) (f .end) xs) (grownBy s f xs)
-    → all s (judgedBy r f) xs ≡ judgedBy (r then rulesOfFragments s (f .header) (f .end) xs) (grownBy s f xs)
+    → all s (Accepted f) xs ≡ judgedBy (rulesOfChunks s (f .header) (f .end) xs) (grownBy s f xs)
+    → all s (judgedBy r f) xs ≡ judgedBy (r then rulesOfChunks s (f .header) (f .end) xs) (grownBy s f xs)
 unfolding judgedBy _then_
 behind-rule s Holds f xs e = e
 behind-rule s (Breaks n t p) f xs e = all-refused s n t p xs
 
 all-rules : (s : List ℕ) (f : TrackFacts) (xs : List ℕ)
-    → all s (Accepted f) xs ≡ judgedBy (rulesOfFragments s (f .header) (f .end) xs) (grownBy s f xs)
-unfolding all judgedBy joined joinedAt rulesOfFragments shapeAt timingAt endAt grown grownBy lastEnd
+    → all s (Accepted f) xs ≡ judgedBy (rulesOfChunks s (f .header) (f .end) xs) (grownBy s f xs)
+unfolding all judgedBy joined joinedAt rulesOfChunks shapeAt timingAt endAt grown grownBy lastEnd
 all-rules s f [] = ap Accepted (grown-none s f)
 all-rules s f (x ∷ xs) =
     let h = f .header in
     behind-rule s (shapeAt s h x then timingAt s h (f .end) x) (grown f (whole s x)) xs (all-rules s (grown f (whole s x)) xs)
     ∙ ap₂ judgedBy
-    (then-assoc (shapeAt s h x) (timingAt s h (f .end) x) (rulesOfFragments s h (End (endAt s h x)) xs))
+    (then-assoc (shapeAt s h x) (timingAt s h (f .end) x) (rulesOfChunks s h (End (endAt s h x)) xs))
     (grown-on s f x xs)
 
 -- the first box of a slice stands at 0
@@ -371,21 +421,18 @@ first-box-at s = by (boxes s 0) (boxes-siblings s 0)
     by [] h = refl
     by (x ∷ xs) h = h .0
 
--- what is known by the header and every fragment is what is known of the track
-all-known : (s : List ℕ) → grownBy s (openedFacts (moovAt s) (moovOf s)) (fragments s) ≡ factsOf s
-unfolding grownBy openedFacts factsOf fragmentCount moovOf headerOf mdhdAt hdlrAt
-all-known s =
-    ap
-    (λ (n : ℕ). record { header = headerOf s; mdhd = mdhdAt s; hdlr = hdlrAt s; fragments = n; start = firstTickOf s (fragments s); end = lastEnd s (headerOf s) Unset (fragments s) })
-    (zero-add (length (fragments s)))
+-- what is known by the header and every chunk is what is known of the track
+all-known : (s : List ℕ) → grownBy s (openedFacts (moovAt s) (moovOf s)) (chunks s) ≡ factsOf s
+unfolding grownBy openedFacts factsOf fragmentCount fragments moovOf headerOf mdhdAt hdlrAt
+all-known s = ap (λ (n : ℕ). factsBy (factsOf s) (endOfTrack s) n (factsOf s .plain) (firstTickOf s (chunks s))) (zero-add (fragmentCount s))
 
--- the whole course is rule 6, then the header's rules, then the fragments'
+-- the whole course is rule 6, then the header's rules, then the chunks'
 pub one-pass : (s : List ℕ)
-    → courseOf s ≡ judgedBy (rule6 s then rulesOfHeader s then rulesOfFragments s (headerOf s) Unset (fragments s)) (factsOf s)
-unfolding courseOf rule6 moovAt moovOf ftypOf headerOf fragmentsFrom rulesOfHeader opened openedFacts
+    → courseOf s ≡ judgedBy (rule6 s then rulesOfHeader s then rulesOfChunks s (headerOf s) Unset (chunks s)) (factsOf s)
+unfolding courseOf rule6 moovAt moovOf ftypOf headerOf chunksFrom rulesOfHeader opened openedFacts
 one-pass s =
     comes-to s (length s) 0 (On Start) (boxes s 0) (boxes-siblings s 0) tt
-    ∙ ap (λ (at : ℕ). behind (rule6 s) (all s (openedAt s (ftypIn (whole s at)) (moovAt s)) (fragments s))) (first-box-at s)
-    ∙ ap (behind (rule6 s)) (behind-rule s (rulesOfHeader s) (openedFacts (moovAt s) (moovOf s)) (fragments s) (all-rules s _ (fragments s)))
-    ∙ ap (λ (f : TrackFacts). behind (rule6 s) (judgedBy (rulesOfHeader s then rulesOfFragments s (headerOf s) Unset (fragments s)) f)) (all-known s)
-    ∙ behind-then (rule6 s) (rulesOfHeader s then rulesOfFragments s (headerOf s) Unset (fragments s)) (factsOf s)
+    ∙ ap (λ (at : ℕ). behind (rule6 s) (all s (openedAt s (ftypIn (whole s at)) (moovAt s)) (chunks s))) (first-box-at s)
+    ∙ ap (behind (rule6 s)) (behind-rule s (rulesOfHeader s) (openedFacts (moovAt s) (moovOf s)) (chunks s) (all-rules s _ (chunks s)))
+    ∙ ap (λ (f : TrackFacts). behind (rule6 s) (judgedBy (rulesOfHeader s then rulesOfChunks s (headerOf s) Unset (chunks s)) f)) (all-known s)
+    ∙ behind-then (rule6 s) (rulesOfHeader s then rulesOfChunks s (headerOf s) Unset (chunks s)) (factsOf s)

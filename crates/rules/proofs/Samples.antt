@@ -1,4 +1,4 @@
--- The samples of a fragment, one by one: where the player's test of them holds, and where it fails.
+-- The samples of a chunk, one by one: where the player's test of them holds, and where it fails.
 use mathlib.Core.Path.{_≡_, refl, ap}
 use mathlib.Core.Logic.{_⊎_, inl, inr}
 use mathlib.Core.Bool.{Bool, true, false, _&&_, false≢true}
@@ -13,7 +13,7 @@ use lib.IntN.{ℤ, pos, negsuc, _+ℤ_}
 use borrow.Author.Tests.{leb-true, le-leb, eq-eqb, eqb-true}
 use Rattle.numbers.specs.Numbers.{isPlace}
 use Rattle.rules.specs.Boxes.{headOf, sizeOf, whole}
-use Rattle.rules.specs.Fragment.{countOf, bytesOf, sumTo, runBytes, runsIn, defaultsIn}
+use Rattle.rules.specs.Chunk.{countOf, bytesOf, sumTo, runBytes, runsIn, defaultsIn}
 use Rattle.rules.specs.Track.{headerOf, mdatAt}
 use Rattle.rules.specs.Player.{samplesFed, runStart, runsFed, fedAt}
 use Rattle.rules.specs.declared.Defaults.{Defaults}
@@ -141,14 +141,14 @@ clash q w f x m d before next (r ∷ rs) e (inl s) =
 clash q w f x m d before next (r ∷ rs) e (inr s) =
     clash q w f x m d (runStart x m before r +ℤ pos (runBytes m d r)) (next + runBytes m d r) rs (e .1) s
 
--- where the `mdat` payload of the fragment at x begins, and where the `mdat` ends
+-- where the `mdat` payload of the chunk at x begins, and where the `mdat` ends
 abbrev pub payloadAt : List ℕ → ℕ → ℕ
 payloadAt s x = mdatAt s x + headOf s (mdatAt s x)
 
 abbrev pub mdatEnd : List ℕ → ℕ → ℕ
 mdatEnd s x = mdatAt s x + sizeOf s (mdatAt s x)
 
--- every sample, and some sample, of the fragment at x of a track: from the first byte of its `mdat` payload
+-- every sample, and some sample, of the chunk at x of a track: from the first byte of its `mdat` payload
 abbrev pub EachOf : OfSample → List ℕ → ℕ → Type 0
 EachOf q s x =
     EverySample q x (whole s x) (defaultsIn (whole s x) (headerOf s .defaults)) (pos x) (payloadAt s x) (runsIn (whole s x))
@@ -157,10 +157,10 @@ abbrev pub SomeOf : OfSample → List ℕ → ℕ → Type 0
 SomeOf q s x =
     SomeSample q x (whole s x) (defaultsIn (whole s x) (headerOf s .defaults)) (pos x) (payloadAt s x) (runsIn (whole s x))
 
--- a fragment feeds the player exactly where each of its samples is whole
-pub fragment-fed : (s : List ℕ) (x : ℕ) → EachOf (WholeSample (mdatEnd s x)) s x → fedAt s (headerOf s) x ≡ true
+-- a chunk feeds the player exactly where each of its samples is whole
+pub chunk-fed : (s : List ℕ) (x : ℕ) → EachOf (WholeSample (mdatEnd s x)) s x → fedAt s (headerOf s) x ≡ true
 unfolding fedAt
-fragment-fed s x h =
+chunk-fed s x h =
     every-fed x (whole s x) (defaultsIn (whole s x) (headerOf s .defaults)) (pos x) (payloadAt s x) (mdatEnd s x) (runsIn (whole s x)) h
 
 pub samples-whole : (s : List ℕ) (x : ℕ) → fedAt s (headerOf s) x ≡ true → EachOf (WholeSample (mdatEnd s x)) s x

@@ -10,7 +10,7 @@ use Rattle.rules.specs.Refusals.{member, among, apart, shapeNumbers, tim
 use Rattle.rules.specs.Rules.{_then_}
 use Rattle.rules.specs.Framing.{rulesOfFraming}
 use Rattle.rules.specs.Order.{rule6}
-use Rattle.rules.specs.Track.{rule1, rulesOfHeader, ruling, rulesOfFragments, headerOf, fragments, shapeAt, timingAt, endAt}
+use Rattle.rules.specs.Track.{rule1, rulesOfHeader, ruling, rulesOfChunks, headerOf, chunks, shapeAt, timingAt, endAt}
 use Rattle.rules.specs.Player.{shapes, rulesBeforeTiming, State, streamOf, begin, stepOn, stuck, play}
 use Rattle.rules.specs.Plans.{All}
 use Rattle.rules.specs.declared.Previous.{Previous}
@@ -24,16 +24,16 @@ use Rattle.rules.proofs.Numbered.{Numbered, wider, n-then, n-holds, pas
 use Rattle.rules.proofs.NumbersOfTrack.{n-front, n-shape-at, n-timing-at}
 use Rattle.rules.proofs.Stuck.{stuck-broken-rule, plan-stuck, play-is-stuck}
 
--- each group of the rules before timing holds of a track: its length, framing, order and header, and the shape of every fragment
+-- each group of the rules before timing holds of a track: its length, framing, order and header, and the shape of every chunk
 abbrev pub GroupsHold : List ℕ → Type 0
 GroupsHold s =
     (rule1 (length s) ≡ Holds)
     × (rulesOfFraming s ≡ Holds)
     × (rule6 s ≡ Holds)
     × (rulesOfHeader s ≡ Holds)
-    × All (λ x. shapeAt s (headerOf s) x ≡ Holds) (fragments s)
+    × All (λ x. shapeAt s (headerOf s) x ≡ Holds) (chunks s)
 
--- the shape of every fragment, as one rule and one by one
+-- the shape of every chunk, as one rule and one by one
 shapes-hold : (s : List ℕ) (h : Header) (xs : List ℕ) → All (λ x. shapeAt s h x ≡ Holds) xs → shapes s h xs ≡ Holds
 unfolding shapes
 shapes-hold s h [] a = refl
@@ -48,51 +48,51 @@ each-shape s h (x ∷ xs) e = let y = then-both (shapeAt s h x) (shapes s h xs) 
 pub keeps-hold : (s : List ℕ) → GroupsHold s → rulesBeforeTiming s ≡ Holds
 unfolding rulesBeforeTiming
 keeps-hold s k =
-    let f = shapes-hold s (headerOf s) (fragments s) (k .4) in
+    let f = shapes-hold s (headerOf s) (chunks s) (k .4) in
     search (both-hold, k .0, k .1, k .2, k .3, f) depth 10
 
 -- and where they do, each group holds: the player is blind to none of them
 pub hold-keeps : (s : List ℕ) → rulesBeforeTiming s ≡ Holds → GroupsHold s
 unfolding rulesBeforeTiming
 hold-keeps s e =
-    let f = shapes s (headerOf s) (fragments s) in
+    let f = shapes s (headerOf s) (chunks s) in
     let a = then-both (rule1 (length s)) (rulesOfFraming s then rule6 s then rulesOfHeader s then f) e in
     let b = then-both (rulesOfFraming s) (rule6 s then rulesOfHeader s then f) (a .1) in
     let c = then-both (rule6 s) (rulesOfHeader s then f) (b .1) in
     let d = then-both (rulesOfHeader s) f (c .1) in
-    (a .0, b .0, c .0, d .0, each-shape s (headerOf s) (fragments s) (d .1))
+    (a .0, b .0, c .0, d .0, each-shape s (headerOf s) (chunks s) (d .1))
 
--- the rules of fragments hold, so the shape of each does
-shaped : (s : List ℕ) (h : Header) (prev : Previous) (xs : List ℕ) → rulesOfFragments s h prev xs ≡ Holds → All (λ x. shapeAt s h x ≡ Holds) xs
-unfolding rulesOfFragments
+-- the rules of chunks hold, so the shape of each does
+shaped : (s : List ℕ) (h : Header) (prev : Previous) (xs : List ℕ) → rulesOfChunks s h prev xs ≡ Holds → All (λ x. shapeAt s h x ≡ Holds) xs
+unfolding rulesOfChunks
 shaped s h prev [] r = tt
 shaped s h prev (x ∷ xs) r =
-    let rest = rulesOfFragments s h (End (endAt s h x)) xs in
+    let rest = rulesOfChunks s h (End (endAt s h x)) xs in
     let y = then-both (shapeAt s h x) (timingAt s h prev x then rest) r in
     (y .0, shaped s h (End (endAt s h x)) xs (then-both (timingAt s h prev x) rest (y .1) .1))
 
--- what an accepted track keeps: each group of the rules before timing, and the rules of its fragments
-pub accepted-keeps : (s : List ℕ) → ruling s ≡ Holds → GroupsHold s × (rulesOfFragments s (headerOf s) Unset (fragments s) ≡ Holds)
+-- what an accepted track keeps: each group of the rules before timing, and the rules of its chunks
+pub accepted-keeps : (s : List ℕ) → ruling s ≡ Holds → GroupsHold s × (rulesOfChunks s (headerOf s) Unset (chunks s) ≡ Holds)
 unfolding ruling
 accepted-keeps s e =
-    let f = rulesOfFragments s (headerOf s) Unset (fragments s) in
+    let f = rulesOfChunks s (headerOf s) Unset (chunks s) in
     let a = then-both (rule1 (length s)) (rulesOfFraming s then rule6 s then rulesOfHeader s then f) e in
     let b = then-both (rulesOfFraming s) (rule6 s then rulesOfHeader s then f) (a .1) in
     let c = then-both (rule6 s) (rulesOfHeader s then f) (b .1) in
     let d = then-both (rulesOfHeader s) f (c .1) in
-    ((a .0, b .0, c .0, d .0, shaped s (headerOf s) Unset (fragments s) (d .1)), d .1)
+    ((a .0, b .0, c .0, d .0, shaped s (headerOf s) Unset (chunks s) (d .1)), d .1)
 
 -- an accepted track keeps the rules before timing
 pub accepted-sound : (s : List ℕ) → ruling s ≡ Holds → rulesBeforeTiming s ≡ Holds
 accepted-sound s r = keeps-hold s (accepted-keeps s r .0)
 
--- a refusal of fragments under a number that the player meets is one of the shapes, which are then refused alike: timing has other numbers
-shape-refused : (s : List ℕ) (h : Header) (prev : Previous) (xs : List ℕ) (n t p : ℕ) → member n metNumbers ≡ true → rulesOfFragments s h prev xs ≡ Breaks n t p
+-- a refusal of chunks under a number that the player meets is one of the shapes, which are then refused alike: timing has other numbers
+shape-refused : (s : List ℕ) (h : Header) (prev : Previous) (xs : List ℕ) (n t p : ℕ) → member n metNumbers ≡ true → rulesOfChunks s h prev xs ≡ Breaks n t p
     → shapes s h xs ≡ Breaks n t p
-unfolding rulesOfFragments shapes apart member
+unfolding rulesOfChunks shapes apart member
 shape-refused s h prev [] n t p l e = e
 shape-refused s h prev (x ∷ xs) n t p l e =
-    let rest = rulesOfFragments s h (End (endAt s h x)) xs in
+    let rest = rulesOfChunks s h (End (endAt s h x)) xs in
     then-under (shapeAt s h x) (timingAt s h prev x then rest) (shapes s h xs) n t p
     (λ y. shape-refused s h (End (endAt s h x)) xs n t p l
     (passes-on timingNumbers (timingAt s h prev x) rest n t p (n-timing-at s h prev x) (member-apart n metNumbers timingNumbers l refl) y .1)) e
@@ -101,12 +101,12 @@ shape-refused s h prev (x ∷ xs) n t p l e =
 pub refused-alike : (s : List ℕ) (n t p : ℕ) → member n metNumbers ≡ true → ruling s ≡ Breaks n t p → rulesBeforeTiming s ≡ Breaks n t p
 unfolding ruling rulesBeforeTiming
 refused-alike s n t p l e =
-    let f = rulesOfFragments s (headerOf s) Unset (fragments s) in
-    let f′ = shapes s (headerOf s) (fragments s) in
+    let f = rulesOfChunks s (headerOf s) Unset (chunks s) in
+    let f′ = shapes s (headerOf s) (chunks s) in
     then-under (rule1 (length s)) (rulesOfFraming s then rule6 s then rulesOfHeader s then f) (rulesOfFraming s then rule6 s then rulesOfHeader s then f′) n t p
     (then-under (rulesOfFraming s) (rule6 s then rulesOfHeader s then f) (rule6 s then rulesOfHeader s then f′) n t p
     (then-under (rule6 s) (rulesOfHeader s then f) (rulesOfHeader s then f′) n t p
-    (then-under (rulesOfHeader s) f f′ n t p (shape-refused s (headerOf s) Unset (fragments s) n t p l)))) e
+    (then-under (rulesOfHeader s) f f′ n t p (shape-refused s (headerOf s) Unset (chunks s) n t p l)))) e
 
 -- so every step on it is stuck, and every play that chooses it first
 pub stuck-refused : (g : State) (s : List ℕ) (n t p : ℕ) → member n metNumbers ≡ true → ruling s ≡ Breaks n t p → stepOn g (streamOf s) ≡ none
@@ -133,4 +133,4 @@ n-shapes s h (x ∷ xs) = n-then _ _ (n-shape-at s h x) (n-shapes s h xs)
 pub met-numbered : (s : List ℕ) → Numbered metNumbers (rulesBeforeTiming s)
 unfolding rulesBeforeTiming among member
 met-numbered s =
-    n-front metNumbers s _ refl (wider shapeNumbers metNumbers _ refl (n-shapes s (headerOf s) (fragments s)))
+    n-front metNumbers s _ refl (wider shapeNumbers metNumbers _ refl (n-shapes s (headerOf s) (chunks s)))

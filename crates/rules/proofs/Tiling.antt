@@ -14,7 +14,7 @@ use Rattle.numbers.specs.Numbers.{has, signed, isPlace, when}
 use Rattle.rules.specs.Rules.{must}
 use Rattle.rules.specs.Boxes.{headOf, sizeOf, whole}
 use Rattle.rules.specs.Fields.{field, flagsOf}
-use Rattle.rules.specs.Fragment.{countOf, bytesOf, sumTo, runBytes, bytesIn, runsIn, defaultsIn, offsetIs, placed, rule22runs, rule22}
+use Rattle.rules.specs.Chunk.{countOf, bytesOf, sumTo, runBytes, bytesIn, runsIn, defaultsIn, offsetIs, placed, rule22runs, rule22}
 use Rattle.rules.specs.Track.{mdatAt}
 use Rattle.rules.specs.Player.{runStart, fedAt}
 use Rattle.rules.specs.declared.Rule.the-variants.{Holds}
@@ -72,7 +72,7 @@ tiled-samples x m d first e before next till (r ∷ rs) h n b i = (
         b
         ∙ ap pos (sym n)
 
--- a fragment that rule 22 accepts feeds the player
+-- a chunk that rule 22 accepts feeds the player
 pub fed-at : (s : List ℕ) (h : Header) (x : ℕ)
     → rule22 (whole s x) (h .defaults) (headOf s (mdatAt s x)) (sizeOf s (mdatAt s x) - headOf s (mdatAt s x)) ≡ Holds
     → DataBox s x → fedAt s h x ≡ true

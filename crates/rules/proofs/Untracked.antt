@@ -6,7 +6,7 @@ use Prim.Native.Nat.{ℕ, _≤_}
 use Rattle.rules.specs.Rules.{_then_, must, placedUpTo}
 use Rattle.rules.specs.Boxes.{kids}
 use Rattle.rules.specs.Counts.{seen, oneOf, atMostOneOf, someOf, counted, counts}
-use Rattle.rules.specs.Fragment.{rule16runs, rule16, rule17, rule18, rule19, rule21, rule22runs, rule22}
+use Rattle.rules.specs.Chunk.{rule16runs, rule16, rule17, rule18, rule19, rule21, rule22runs, rule22}
 use Rattle.rules.specs.declared.Entry.{Entry}
 use Rattle.rules.specs.declared.Entry.the-variants.{Nothing, One, AtMostOne, OneOrMore, OneInAll}
 use Rattle.rules.specs.declared.Seen.{Seen}
@@ -66,7 +66,7 @@ unfolding counts
 counts-untracked n m at [] = tt
 counts-untracked n m at (e ∷ es) = then-is Untracked _ _ (counted-untracked n at e (seen e (kids m at))) (counts-untracked n m at es)
 
--- a fragment: rules 16 to 19, and 21 and 22
+-- a chunk: rules 16 to 19, and 21 and 22
 module _ (m : List ℕ) where
   runs-16 : (rs : List ℕ) → Untracked (rule16runs m rs)
   unfolding rule16runs
@@ -82,6 +82,6 @@ module _ (m : List ℕ) where
   runs-22 d first e [] = tt
   runs-22 d first e (r ∷ rs) = next _ 22 r _ (runs-22 d false _ rs)
 
-  pub of-sums-untracked : (d : Defaults) (head payload : ℕ) → Untracked (rule21 m d then rule22 m d head payload)
+  pub of-sums-untracked : (d : Defaults) (head payload : ℕ) (prev : Previous) → Untracked (rule21 m d prev then rule22 m d head payload)
   unfolding rule21 rule22
-  of-sums-untracked d head payload = next _ 21 _ _ (then-is Untracked _ _ (runs-22 _ true _ _) (test _ 22 _))
+  of-sums-untracked d head payload prev = next _ 21 _ _ (then-is Untracked _ _ (runs-22 _ true _ _) (test _ 22 _))

@@ -11,7 +11,7 @@ use Rattle.numbers.specs.Numbers.{when}
 use Rattle.rules.specs.Kinds.{ftyp, moov, moof, mdat}
 use Rattle.rules.specs.Boxes.{Box, look, grow, forest, tops, boxes, placesOf, headOf, sizeOf, kindOf, whole}
 use Rattle.rules.specs.Order.{ordered, awaits, step6, onStepped, orderFrom, rule6}
-use Rattle.rules.specs.Track.{fragmentsFrom, fragments, mdatAt}
+use Rattle.rules.specs.Track.{chunksFrom, chunks, mdatAt}
 use Rattle.rules.specs.Plans.{All}
 use Rattle.rules.specs.declared.Path.{Path}
 use Rattle.rules.specs.declared.Path.the-variants.{Flat}
@@ -125,9 +125,9 @@ in-order s len at g (x ∷ xs) y h =
     go (To k) e r false q rest = rest k r
     go (To k) e r true q rest = (here (rw (after-moof g (x .kind) k q e) r), rest k r)
 
--- the data box of every fragment of a track whose top level is in order
-pub data-boxes : (s : List ℕ) → rule6 s ≡ Holds → All (DataBox s) (fragments s)
-unfolding rule6 fragmentsFrom
+-- the data box of every chunk of a track whose top level is in order
+pub data-boxes : (s : List ℕ) → rule6 s ≡ Holds → All (DataBox s) (chunks s)
+unfolding rule6 chunksFrom
 data-boxes s h = in-order s (length s) 0 Start (boxes s 0) (boxes-siblings s 0) h
 
 -- the stages before the first `moof`
@@ -188,7 +188,7 @@ some-moof len g (x ∷ xs) e h = go (eqb (x .kind) moof) refl (step6 g (x .kind)
     go false n Wrong q r f = absurd (broken r)
     go false n (To k) q r f = f k (still-early g (x .kind) k e n q) r
 
--- a track whose top level is in order has a fragment
-pub some-fragment : (s : List ℕ) → rule6 s ≡ Holds → 1 ≤ length (fragments s)
-unfolding rule6 fragmentsFrom
-some-fragment s h = some-moof (length s) Start (boxes s 0) tt h
+-- a track whose top level is in order has a chunk
+pub some-chunk : (s : List ℕ) → rule6 s ≡ Holds → 1 ≤ length (chunks s)
+unfolding rule6 chunksFrom
+some-chunk s h = some-moof (length s) Start (boxes s 0) tt h

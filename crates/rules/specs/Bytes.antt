@@ -63,23 +63,41 @@ moofOf start r = moofWith (boxed tfdt (zeros 4 ++ in4 start)) r
 unfoldable pub moofOf8 : ℕ → List ℕ → List ℕ
 moofOf8 start r = moofWith (boxed tfdt (in4 0x1000000 ++ in8 start)) r
 
--- a fragment from a start, with its data offset and the payload's length
-unfoldable pub fragment : ℕ → ℕ → ℕ → List ℕ
-fragment start offset payload = moofOf start (run 0 offset []) ++ boxed mdat (zeros payload)
+-- a chunk from a start, with its data offset and the payload's length
+unfoldable pub chunk : ℕ → ℕ → ℕ → List ℕ
+chunk start offset payload = moofOf start (run 0 offset []) ++ boxed mdat (zeros payload)
 
--- T: two fragments from 0
+-- T: two fragments from 0, each of one chunk
 unfoldable pub trackT : List ℕ
-trackT = header ++ fragment 0 108 30 ++ fragment 180000 108 30
+trackT = header ++ chunk 0 108 30 ++ chunk 180000 108 30
 
--- a track of one fragment from a start, with its data offset and the payload's length
+-- a chunk from a start whose first sample has these flags of its own
+unfoldable pub flaggedChunk : ℕ → ℕ → List ℕ
+flaggedChunk start flags = moofOf start (run 0x4 112 (in4 flags)) ++ boxed mdat (zeros 30)
+
+-- flags that say sync, and flags that say non-sync
+abbrev pub syncFlags : ℕ
+syncFlags = 0x2000000
+
+abbrev pub otherFlags : ℕ
+otherFlags = 0x1010000
+
+-- U: three chunks in two fragments from 0, of which the second chunk continues the first fragment; by the second chunk's start and the first one's flags
+unfoldable pub threeChunks : ℕ → ℕ → List ℕ
+threeChunks second flags = header ++ flaggedChunk 0 flags ++ flaggedChunk second otherFlags ++ flaggedChunk 360000 syncFlags
+
+unfoldable pub trackU : List ℕ
+trackU = threeChunks 180000 syncFlags
+
+-- a track of one chunk from a start, with its data offset and the payload's length
 unfoldable pub single : ℕ → ℕ → ℕ → List ℕ
-single start offset payload = header ++ fragment start offset payload
+single start offset payload = header ++ chunk start offset payload
 
 -- T, a tick later
 unfoldable pub shifted : List ℕ
-shifted = header ++ fragment 1 108 30 ++ fragment 180001 108 30
+shifted = header ++ chunk 1 108 30 ++ chunk 180001 108 30
 
 -- the mark of this file: its definitions unfold wherever it does
 unfoldable pub computedBytes : Unit {0}
-unfolding in4 in8 zeros boxed headerWith header run moofWith moofOf moofOf8 fragment trackT single shifted
+unfolding in4 in8 zeros boxed headerWith header run moofWith moofOf moofOf8 chunk trackT flaggedChunk threeChunks trackU single shifted
 computedBytes = tt

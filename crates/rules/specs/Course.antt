@@ -1,16 +1,17 @@
 -- One pass: the same rules, taken one box at a time. What a track has come to after some of its boxes is a stage of rule 6, with the rules so far. The
--- header is judged where `moov` is met in order, a fragment where its `mdat` is; after the first broken rule of these no more are judged, but the order
+-- header is judged where `moov` is met in order, a chunk where its `mdat` is; after the first broken rule of these no more are judged, but the order
 -- goes on; where the order is broken, that decides. A box is judged by its own bytes and those of the `moof` that waits, wherever they are held.
 use Prim.Native.Nat.{ℕ, _+_, _-_}
 use mathlib.Core.List.{List, [], _∷_}
+use mathlib.Core.Bool.{Bool, true, _&&_}
 use lib.ListN.{length}
 use Rattle.numbers.specs.Numbers.{when}
 use Rattle.rules.specs.Rules.{_then_, moved}
 use Rattle.rules.specs.Boxes.{Box, boxes, whole}
 use Rattle.rules.specs.Order.{ordered, step6, onStepped}
 use Rattle.rules.specs.Header.{headerRules, ftypIn, headerIn, placesIn}
-use Rattle.rules.specs.Fragment.{shape, timing, startOf, endOf}
-use Rattle.rules.specs.Track.{headerOf, fragments, fragmentCount, firstTickOf, endOfTrack, ruling}
+use Rattle.rules.specs.Chunk.{shape, timing, startOf, endOf, syncIn, beginsOne}
+use Rattle.rules.specs.Track.{headerOf, chunks, syncAt, fragmentCount, firstTickOf, endOfTrack, ruling}
 use Rattle.rules.specs.Set.{mdhdAt, hdlrAt}
 use Rattle.rules.specs.declared.Course.{Course}
 use Rattle.rules.specs.declared.Course.the-variants.{On, Broken}
@@ -42,6 +43,7 @@ openedFacts at m =
       mdhd = at + placesIn m .mdhd;
       hdlr = at + placesIn m .hdlr;
       fragments = 0;
+      plain = true;
       start = firstTick.Unset;
       end = Unset;
     }
@@ -55,19 +57,20 @@ abbrev pub orTick : FirstTick → ℕ → FirstTick
 orTick firstTick.Unset a = firstTick.Tick a
 orTick (firstTick.Tick t) a = firstTick.Tick t
 
--- a track with one fragment more, by the bytes of its `moof`
+-- a track with one chunk more, by the bytes of its `moof`: one fragment more where it begins one
 unfoldable pub grown : TrackFacts → List ℕ → TrackFacts
 grown f m =
     record {
       header = f .header;
       mdhd = f .mdhd;
       hdlr = f .hdlr;
-      fragments = f .fragments + 1;
+      fragments = f .fragments + when (beginsOne (f .end) (syncIn m (f .header .defaults))) 1 0;
+      plain = f .plain && syncIn m (f .header .defaults);
       start = orTick (f .start) (startOf m);
       end = End (endOf m (f .header .defaults));
     }
 
--- the fragment whose `moof` stands at x, by its bytes and the header length and the payload of its `mdat`: its rules, unless one was broken before
+-- the chunk whose `moof` stands at x, by its bytes and the header length and the payload of its `mdat`: its rules, unless one was broken before
 unfoldable pub joined : Judged → ℕ → List ℕ → ℕ → ℕ → Judged
 joined (Accepted f) x m head payload =
     judgedBy
@@ -128,6 +131,11 @@ courseEnd len (On (Halved j m)) = Refused 6 0 len
 unfoldable pub courseOf : List ℕ → Judged
 courseOf s = courseEnd (length s) (courseFrom s (On Start) (boxes s 0))
 
+-- whether the first sample of each chunk is sync
+unfoldable pub eachSync : (ℕ → Bool) → List ℕ → Bool
+eachSync sync [] = true
+eachSync sync (x ∷ xs) = sync x && eachSync sync xs
+
 -- what is known of a track
 unfoldable pub factsOf : List ℕ → TrackFacts
 factsOf s =
@@ -136,7 +144,8 @@ factsOf s =
       mdhd = mdhdAt s;
       hdlr = hdlrAt s;
       fragments = fragmentCount s;
-      start = firstTickOf s (fragments s);
+      plain = eachSync (syncAt s (headerOf s)) (chunks s);
+      start = firstTickOf s (chunks s);
       end = endOfTrack s;
     }
 
@@ -146,5 +155,5 @@ judgement s = judgedBy (ruling s) (factsOf s)
 
 -- the mark of this file: its definitions unfold wherever it does
 unfoldable pub computedCourse : Unit {0}
-unfolding judgedBy openedFacts opened grown joined brought andBox courseFrom courseEnd courseOf factsOf judgement
+unfolding judgedBy openedFacts opened grown joined brought andBox courseFrom courseEnd courseOf eachSync factsOf judgement
 computedCourse = tt

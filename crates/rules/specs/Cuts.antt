@@ -1,12 +1,13 @@
--- Examples of a track in pieces, by computation: 29 at both sides of its bound and at its place in the order, and what comes later over what is pending.
+-- Examples of a track in pieces, by computation: U accepted; 29 at both sides of its bound and at its place in the order, and what comes later over what
+-- is pending.
 use Prim.Native.Nat.{ℕ}
 use mathlib.Core.List.{List, [], _∷_, _++_, map}
 use mathlib.Core.Path.{_≡_, refl}
 use Rattle.rules.specs.Kinds.{ftyp, moov, moof, mdat}
-use Rattle.rules.specs.Bytes.{in4, in8, zeros, boxed}
+use Rattle.rules.specs.Bytes.{in4, in8, zeros, boxed, trackU}
 use Rattle.rules.specs.Computed.{computed}
 use Rattle.rules.specs.Examples.{free}
-use Rattle.rules.specs.Pieces.{rulingInPieces}
+use Rattle.rules.specs.Pieces.{rulingInPieces, acceptedBetween, answerFor}
 use Rattle.rules.specs.declared.Rule.{Rule}
 use Rattle.rules.specs.declared.Rule.the-variants.{Breaks}
 
@@ -39,6 +40,11 @@ cuts =
     ∷ (bare ++ zeros 1, Breaks 2 0 24)
     ∷ (bare ++ in4 32769 ++ in4 moof, Breaks 29 0 24)
     ∷ []
+
+-- U in pieces: two fragments, from the first start to the last chunk's end
+pub chunks-in-pieces : answerFor trackU ≡ acceptedBetween 2 90000 0 540000
+unfolding computed
+chunks-in-pieces = refl
 
 pub cut-examples : map (λ e. rulingInPieces (e .0)) cuts ≡ map (λ e. e .1) cuts
 unfolding computed bare cuts

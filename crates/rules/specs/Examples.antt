@@ -1,16 +1,19 @@
--- The starred examples of document 01, as one list and one statement; then the limits, each at both sides of its bound, and the order of the rules.
+-- The starred examples of document 01, with those of request 2, as one list and one statement; then the limits, each at both sides of its bound, and
+-- the order of the rules.
 use Prim.Native.Nat.{ℕ, zero, suc, _*_}
 use mathlib.Core.List.{List, [], _∷_, _++_, map}
 use mathlib.Core.Path.{_≡_, refl}
 use lib.ListN.{take, drop}
 use Rattle.rules.specs.Kinds.{vmhd, trun, vide, soun, letters}
-use Rattle.rules.specs.Bytes.{in4, in8, zeros, boxed, headerWith, header, run, moofOf, moofOf8, fragment, trackT}
+use Rattle.rules.specs.Bytes.{in4, in8, zeros, boxed, headerWith, header, run, moofOf, moofOf8, chunk, trackT, flaggedChunk, syncFlags, otherFlags, threeChunks, trackU}
 use Rattle.rules.specs.Computed.{computed}
 use Rattle.rules.specs.Boxes.{forest}
 use Rattle.rules.specs.Framing.{framing, framingRule}
-use Rattle.rules.specs.Fragment.{rule18, rule20}
+use Rattle.rules.specs.Chunk.{rule18, rule20}
 use Rattle.rules.specs.Bundle.{rule24}
 use Rattle.rules.specs.Track.{rule1, ruling, Outcome, trackOutcome}
+use Rattle.rules.specs.Set.{setOutcome}
+use Rattle.rules.specs.Jobs.{Job}
 use Rattle.rules.specs.declared.Defaults.{Defaults}
 use Rattle.rules.specs.declared.Path.the-variants.{Top}
 use Rattle.rules.specs.declared.Rule.{Rule}
@@ -24,43 +27,65 @@ free = letters 0x66 0x72 0x65 0x65
 abbrev pub nines : List ℕ
 nines = 9 ∷ 9 ∷ 9 ∷ 9 ∷ []
 
--- a refusal with its number and its place: no count, no timescale, the table as it was
-unfoldable pub refusedAt : ℕ → ℕ → Outcome
-refusedAt n place =
-    record { verdict = record { number = n; track = 0; place = place; count = 0; timescale = 0 }; table = nines }
+-- a refusal with its number, its track and its place: no count, no timescale, the table as it was
+unfoldable pub refusedOf : ℕ → ℕ → ℕ → Outcome
+refusedOf n k place =
+    record { verdict = record { number = n; track = k; place = place; count = 0; timescale = 0 }; table = nines }
 
--- T's acceptance: two fragments, timescale 90000, three boundaries in the table and nothing after them changed
-unfoldable pub acceptance : Outcome
-acceptance =
+abbrev pub refusedAt : ℕ → ℕ → Outcome
+refusedAt n place = refusedOf n 0 place
+
+-- an acceptance of two fragments at timescale 90000: three boundaries in the table and nothing after them changed
+unfoldable pub acceptedOver : ℕ → ℕ → ℕ → Outcome
+acceptedOver a b c =
     record {
       verdict = record { number = 0; track = 0; place = 0; count = 2; timescale = 90000 };
-      table = 0 ∷ 180000 ∷ 360000 ∷ 9 ∷ [];
+      table = a ∷ b ∷ c ∷ 9 ∷ [];
     }
 
--- each starred example: the bytes of a track, and what document 01 says of them
-unfoldable pub starred : List (List ℕ × Outcome)
+-- T's acceptance
+abbrev pub acceptance : Outcome
+acceptance = acceptedOver 0 180000 360000
+
+-- the bundle of T and another track, by that one's length
+unfoldable pub besideT : ℕ → List ℕ → List ℕ
+besideT n s = (0x53 ∷ 0x57 ∷ in4 768) ++ trackT ++ (0x53 ∷ 0x57 ∷ in4 n) ++ s
+
+-- three chunks in two fragments, of which the third chunk continues the second fragment
+unfoldable pub endsInTwo : List ℕ
+endsInTwo = header ++ flaggedChunk 0 syncFlags ++ flaggedChunk 180000 syncFlags ++ flaggedChunk 360000 otherFlags
+
+-- each starred example: the job, the bytes of a track or of a bundle, and what the paper says of them
+unfoldable pub starred : List (Job × List ℕ × Outcome)
 starred =
     -- no bytes; 7 bytes
-    ([], refusedAt 6 0)
-    ∷ (zeros 7, refusedAt 2 0)
+    (trackOutcome, [], refusedAt 6 0)
+    ∷ (trackOutcome, zeros 7, refusedAt 2 0)
     -- 8 bytes, type `free`: sizes 8, 7, 9, 1
-    ∷ (in4 8 ++ in4 free, refusedAt 6 0)
-    ∷ (in4 7 ++ in4 free, refusedAt 3 0)
-    ∷ (in4 9 ++ in4 free, refusedAt 4 0)
-    ∷ (in4 1 ++ in4 free, refusedAt 2 0)
+    ∷ (trackOutcome, in4 8 ++ in4 free, refusedAt 6 0)
+    ∷ (trackOutcome, in4 7 ++ in4 free, refusedAt 3 0)
+    ∷ (trackOutcome, in4 9 ++ in4 free, refusedAt 4 0)
+    ∷ (trackOutcome, in4 1 ++ in4 free, refusedAt 2 0)
     -- 16 bytes, `free`: long sizes 16 and 2^64 - 1
-    ∷ (in4 1 ++ in4 free ++ in8 16, refusedAt 6 0)
-    ∷ (in4 1 ++ in4 free ++ in8 18446744073709551615, refusedAt 4 0)
+    ∷ (trackOutcome, in4 1 ++ in4 free ++ in8 16, refusedAt 6 0)
+    ∷ (trackOutcome, in4 1 ++ in4 free ++ in8 18446744073709551615, refusedAt 4 0)
     -- T; second `tfdt` 180001; data offset 107; a spare byte in `mdat`, size 39
-    ∷ (trackT, acceptance)
-    ∷ (header ++ fragment 0 108 30 ++ fragment 180001 108 30, refusedAt 19 678)
-    ∷ (header ++ fragment 0 107 30 ++ fragment 180000 108 30, refusedAt 22 556)
-    ∷ (header ++ fragment 0 108 31 ++ fragment 180000 108 30, refusedAt 22 592)
+    ∷ (trackOutcome, trackT, acceptance)
+    ∷ (trackOutcome, header ++ chunk 0 108 30 ++ chunk 180001 108 30, refusedAt 19 678)
+    ∷ (trackOutcome, header ++ chunk 0 107 30 ++ chunk 180000 108 30, refusedAt 22 556)
+    ∷ (trackOutcome, header ++ chunk 0 108 31 ++ chunk 180000 108 30, refusedAt 22 592)
+    -- U, three chunks in two fragments; its second chunk a tick late; its first chunk non-sync; beside T, at the second fragment's first `moof`
+    ∷ (trackOutcome, trackU, acceptedOver 0 360000 540000)
+    ∷ (trackOutcome, threeChunks 180001 syncFlags, refusedAt 19 682)
+    ∷ (trackOutcome, threeChunks 180000 otherFlags, refusedAt 21 556)
+    ∷ (setOutcome, besideT 918 trackU, refusedOf 28 1 776)
+    -- the same with the last chunk as the one that continues: the last boundary differs, at the last fragment's first `moof`
+    ∷ (setOutcome, besideT 918 endsInTwo, refusedOf 28 1 634)
     ∷ []
 
--- the twelve starred examples, by computation
-pub starred-examples : map (λ e. trackOutcome (e .0) nines) starred ≡ map (λ e. e .1) starred
-unfolding computed starred refusedAt acceptance
+-- the seventeen starred examples, by computation
+pub starred-examples : map (λ e. e .0 (e .1) nines) starred ≡ map (λ e. e .2) starred
+unfolding computed starred refusedOf acceptedOver besideT endsInTwo
 starred-examples = refl
 
 -- the limits, each at the last number allowed and one beyond: a number, and what the rule says there
@@ -136,7 +161,7 @@ record-limits = refl
 unfoldable pub orders : List (List ℕ × Rule)
 orders =
     -- timescale 0, and a handler that doesn't pair with its media header: 10, not 12
-    (headerWith 0 soun vmhd ++ fragment 0 108 30, Breaks 10 0 244)
+    (headerWith 0 soun vmhd ++ chunk 0 108 30, Breaks 10 0 244)
     -- timescale 0, and the last byte of `moov` cut off: 4, not 10
     ∷ (take 491 (headerWith 0 vide vmhd), Breaks 4 0 20)
     -- timescale 0, and behind that `mdhd` a `trex` that ends beyond its parent: 4 there, not 10

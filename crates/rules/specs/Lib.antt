@@ -8,7 +8,7 @@ pub mod Order
 pub mod Counts
 pub mod Fields
 pub mod Header
-pub mod Fragment
+pub mod Chunk
 pub mod Track
 pub mod Bundle
 pub mod Set

@@ -9,7 +9,7 @@ byteLimit = 1073741824
 abbrev pub boxLimit : ℕ
 boxLimit = 4096
 
--- rule 18: the samples of a fragment (house)
+-- rule 18: the samples of a chunk (house)
 abbrev pub sampleLimit : ℕ
 sampleLimit = 65536
 

@@ -11,7 +11,7 @@ use Rattle.rules.specs.Rules.{_then_, onRule}
 use Rattle.rules.specs.Boxes.{Forest, end, bad, node, forest, sizeOf, kindOf}
 use Rattle.rules.specs.Framing.{framing, framingRule}
 use Rattle.rules.specs.Order.{rule6}
-use Rattle.rules.specs.Track.{rule1, headerOf, fragments, fragmentCount, timescale, rulesOfHeader, rulesOfFragments, boundaries}
+use Rattle.rules.specs.Track.{rule1, headerOf, chunks, fragmentCount, timescale, rulesOfHeader, rulesOfChunks, boundaries}
 use Rattle.rules.specs.declared.Path.the-variants.{Top}
 use Rattle.rules.specs.declared.Framing.{Framing}
 use Rattle.rules.specs.declared.Previous.the-variants.{Unset}
@@ -43,7 +43,7 @@ rulingInPieces s =
     then framingRule (framedWith29 s)
     then rule6 s
     then rulesOfHeader s
-    then rulesOfFragments s (headerOf s) Unset (fragments s)
+    then rulesOfChunks s (headerOf s) Unset (chunks s)
 
 -- the first and the last boundary of a track
 unfoldable pub firstBoundary : List ℕ → ℕ

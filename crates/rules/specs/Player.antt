@@ -12,26 +12,30 @@ use Rattle.rules.specs.Boxes.{headOf, sizeOf, whole}
 use Rattle.rules.specs.Fields.{field, flagsOf}
 use Rattle.rules.specs.Framing.{rulesOfFraming}
 use Rattle.rules.specs.Order.{rule6}
-use Rattle.rules.specs.Fragment.{countOf, bytesOf, sumTo, runBytes, runsIn, defaultsIn, syncIn}
-use Rattle.rules.specs.Track.{rule1, rulesOfHeader, headerOf, fragments, mdatAt, shapeAt, startAt, endAt, timescale}
+use Rattle.rules.specs.Chunk.{countOf, bytesOf, sumTo, runBytes, runsIn, defaultsIn}
+use Rattle.rules.specs.Track.{rule1, rulesOfHeader, headerOf, chunks, mdatAt, shapeAt, startAt, endAt, syncAt, Fragment, fragments, timescale}
 use Rattle.rules.specs.declared.Rule.{Rule}
 use Rattle.rules.specs.declared.Rule.the-variants.{Holds, Breaks}
 use Rattle.rules.specs.declared.Defaults.{Defaults}
 use Rattle.rules.specs.declared.Header.{Header}
 
--- what the player meets of a fragment: its `tfdt`, the clock after it, whether its first sample is sync, and whether each
--- sample's bytes are the next bytes inside its `mdat`
+-- what the player meets of a chunk: its `tfdt`, the clock after it, and whether each sample's bytes are the next bytes inside its `mdat`
 pub record Piece : Type 0 where
   pub from : ℕ
   pub to : ℕ
-  pub sync : Bool
   pub fed : Bool
+
+-- what the player meets of a fragment: whether its first sample is sync, its first chunk, and those that continue it
+pub record Stretch : Type 0 where
+  pub sync : Bool
+  pub lead : Piece
+  pub rest : List Piece
 
 -- what the player meets of a track: whether rules 1 to 18 hold, the timescale, the fragments
 pub record Stream : Type 0 where
   pub sound : Bool
   pub scale : ℕ
-  pub pieces : List Piece
+  pub stretches : List Stretch
 
 -- the first n samples of a run, whose bytes begin at `start`: each begins at the next byte and ends inside the `mdat`
 unfoldable pub samplesFed : List ℕ → Defaults → ℕ → ℤ → ℕ → ℕ → ℕ → Bool
@@ -52,7 +56,7 @@ runsFed x m d before next till (r ∷ rs) =
     samplesFed m d r (runStart x m before r) next till (countOf m r)
     && runsFed x m d (runStart x m before r +ℤ pos (runBytes m d r)) (next + runBytes m d r) till rs
 
--- the fragment at x: from the first byte of its `mdat` payload, the first run starting at the `moof` start where it has no offset
+-- the chunk at x: from the first byte of its `mdat` payload, the first run starting at the `moof` start where it has no offset
 unfoldable pub fedAt : List ℕ → Header → ℕ → Bool
 fedAt s h x =
     runsFed x (whole s x) (defaultsIn (whole s x) (h .defaults)) (pos x)
@@ -62,9 +66,13 @@ fedAt s h x =
 
 unfoldable pub pieceAt : List ℕ → Header → ℕ → Piece
 pieceAt s h x =
-    record { from = startAt s x; to = endAt s h x; sync = syncIn (whole s x) (h .defaults); fed = fedAt s h x }
+    record { from = startAt s x; to = endAt s h x; fed = fedAt s h x }
 
--- 14 to 18 of every fragment
+unfoldable pub stretchAt : List ℕ → Header → Fragment → Stretch
+stretchAt s h f =
+    record { sync = syncAt s h (f .first); lead = pieceAt s h (f .first); rest = map (pieceAt s h) (f .others) }
+
+-- 14 to 18 of every chunk
 unfoldable pub shapes : List ℕ → Header → List ℕ → Rule
 shapes s h [] = Holds
 shapes s h (x ∷ xs) = shapeAt s h x then shapes s h xs
@@ -72,7 +80,7 @@ shapes s h (x ∷ xs) = shapeAt s h x then shapes s h xs
 -- rules 1 to 18 of a track
 unfoldable pub rulesBeforeTiming : List ℕ → Rule
 rulesBeforeTiming s =
-    rule1 (length s) then rulesOfFraming s then rule6 s then rulesOfHeader s then shapes s (headerOf s) (fragments s)
+    rule1 (length s) then rulesOfFraming s then rule6 s then rulesOfHeader s then shapes s (headerOf s) (chunks s)
 
 -- whether a rule holds
 abbrev pub good : Rule → Bool
@@ -85,7 +93,7 @@ streamOf s =
     record {
       sound = good (rulesBeforeTiming s);
       scale = timescale s;
-      pieces = map (pieceAt s (headerOf s)) (fragments s);
+      stretches = map (stretchAt s (headerOf s)) (fragments s);
     }
 
 -- a number that is unset, or the one given
@@ -102,19 +110,33 @@ pub record State : Type 0 where
 unfoldable pub begin : State
 begin = record { number = 0; clock = none; scale = none }
 
--- whether a step goes through: rules 1 to 18 hold, no set timescale differs, the first sample is sync, no set clock differs from
--- `tfdt`, and the samples' bytes are the next ones
-unfoldable pub goes : State → Stream → Piece → Bool
-goes g t p = t .sound && fits (g .scale) (t .scale) && p .sync && fits (g .clock) (p .from) && p .fed
+-- chunks in turn from a clock on: no set clock differs from the `tfdt`, the samples' bytes are the next ones, and for the next chunk the clock is
+-- `tfdt` plus the durations
+unfoldable pub inTurn : Option ℕ → List Piece → Bool
+inTurn clock [] = true
+inTurn clock (p ∷ ps) = fits clock (p .from) && p .fed && inTurn (some (p .to)) ps
 
--- the state after a step: the clock becomes `tfdt` plus the durations and the number rises by one
-unfoldable pub after : State → Stream → Piece → State
-after g t p = record { number = g .number + 1; clock = some (p .to); scale = some (t .scale) }
+-- the clock after chunks in turn
+unfoldable pub clockAfter : ℕ → List Piece → ℕ
+clockAfter clock [] = clock
+clockAfter clock (p ∷ ps) = clockAfter (p .to) ps
+
+-- the clock after a fragment: its last chunk's end
+abbrev pub endsAt : Stretch → ℕ
+endsAt f = clockAfter (f .lead .to) (f .rest)
+
+-- whether a step goes through: rules 1 to 18 hold, no set timescale differs, the fragment's first sample is sync, and its chunks go in turn
+unfoldable pub goes : State → Stream → Stretch → Bool
+goes g t f = t .sound && fits (g .scale) (t .scale) && f .sync && inTurn (g .clock) (f .lead ∷ f .rest)
+
+-- the state after a step: the clock becomes the last chunk's end and the number rises by one
+unfoldable pub after : State → Stream → Stretch → State
+after g t f = record { number = g .number + 1; clock = some (endsAt f); scale = some (t .scale) }
 
 -- the fragment where the step goes through, none where it gets stuck
-unfoldable pub take? : Bool → Piece → Option Piece
-take? true p = some p
-take? false p = none
+unfoldable pub take? : Bool → Stretch → Option Stretch
+take? true f = some f
+take? false f = none
 
 -- a case by what there may be
 abbrev pub onOption : {A B : Type 0} → Option A → B → (A → B) → B
@@ -122,8 +144,8 @@ onOption none b f = b
 onOption (some a) b f = f a
 
 -- a step on a track: stuck if it has no fragment of that number, else by what `goes` says of it
-unfoldable pub stepOn : State → Stream → Option Piece
-stepOn g t = onOption (getElem? (t .pieces) (g .number)) none (λ p. take? (goes g t p) p)
+unfoldable pub stepOn : State → Stream → Option Stretch
+stepOn g t = onOption (getElem? (t .stretches) (g .number)) none (λ f. take? (goes g t f) f)
 
 -- what a plan comes to: stuck, or the ticks passed
 pub data Played : Type 0 where
@@ -143,12 +165,12 @@ unfoldable pub playFrom : List Stream → State → List ℕ → Played
 playFrom ts g [] = passed []
 playFrom ts g (i ∷ plan) =
     onOption (getElem? ts i) stuck
-    (λ t. onOption (stepOn g t) stuck (λ p. tick (p .to) (playFrom ts (after g t p) plan)))
+    (λ t. onOption (stepOn g t) stuck (λ f. tick (endsAt f) (playFrom ts (after g t f) plan)))
 
 -- the start of the first fragment chosen
 unfoldable pub firstStart : List Stream → List ℕ → ℕ
 firstStart ts [] = 0
-firstStart ts (i ∷ plan) = onOption (getElem? ts i) 0 (λ t. onOption (getElem? (t .pieces) 0) 0 (λ p. p .from))
+firstStart ts (i ∷ plan) = onOption (getElem? ts i) 0 (λ t. onOption (getElem? (t .stretches) 0) 0 (λ f. f .lead .from))
 
 -- the ticks passed: the first start, then the clock after each step; an empty plan passes none
 unfoldable pub playStreams : List Stream → List ℕ → Played
@@ -161,5 +183,5 @@ play ss plan = playStreams (map streamOf ss) plan
 
 -- the mark of this file: its definitions unfold wherever it does
 unfoldable pub computedPlayer : Unit {0}
-unfolding samplesFed runStart runsFed fedAt pieceAt shapes rulesBeforeTiming streamOf fits begin goes after take? stepOn playFrom firstStart playStreams play
+unfolding samplesFed runStart runsFed fedAt pieceAt stretchAt shapes rulesBeforeTiming streamOf fits begin inTurn clockAfter goes after take? stepOn playFrom firstStart playStreams play
 computedPlayer = tt

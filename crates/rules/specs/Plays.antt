@@ -3,7 +3,7 @@ use Prim.Native.Nat.{ℕ}
 use mathlib.Core.List.{List, [], _∷_, _++_, map}
 use mathlib.Core.Path.{_≡_, refl}
 use Rattle.rules.specs.Kinds.{moof, mfhd, traf, tfhd, tfdt, trun, mdat}
-use Rattle.rules.specs.Bytes.{in4, zeros, boxed, header, run, moofOf, fragment}
+use Rattle.rules.specs.Bytes.{in4, zeros, boxed, header, run, moofOf, chunk}
 use Rattle.rules.specs.Computed.{computed}
 use Rattle.rules.specs.Track.{ruling}
 use Rattle.rules.specs.Player.{Played, stuck, passed, rulesBeforeTiming, play}
@@ -14,11 +14,11 @@ unfoldable pub moofBy : List ℕ → ℕ → List ℕ → List ℕ
 moofBy h start rs =
     boxed moof (boxed mfhd (zeros 8) ++ boxed traf (boxed tfhd h ++ boxed tfdt (zeros 4 ++ in4 start) ++ rs))
 
--- a track of one fragment with two runs, the second with an offset of its own
+-- a track of one chunk with two runs, the second with an offset of its own
 unfoldable pub twoRuns : ℕ → List ℕ
 twoRuns offset = header ++ moofOf 0 (run 0 144 [] ++ run 0 offset []) ++ boxed mdat (zeros 60)
 
--- a track of one fragment whose first run has no samples, no offset, and first-sample flags that say non-sync
+-- a track of one chunk whose first run has no samples, no offset, and first-sample flags that say non-sync
 unfoldable pub emptyFirst : List ℕ
 emptyFirst =
     header ++ moofOf 0 (boxed trun (in4 0x4 ++ in4 0 ++ in4 0x1010000) ++ run 0 128 []) ++ boxed mdat (zeros 30)
@@ -26,7 +26,7 @@ emptyFirst =
 -- T with a spare byte at the end of its first `mdat`, and with a track ID in its second `tfhd`
 unfoldable pub spare : ℕ → List ℕ
 spare id =
-    header ++ fragment 0 108 31 ++ moofBy (in4 0x20000 ++ in4 id) 180000 (run 0 108 []) ++ boxed mdat (zeros 30)
+    header ++ chunk 0 108 31 ++ moofBy (in4 0x20000 ++ in4 id) 180000 (run 0 108 []) ++ boxed mdat (zeros 30)
 
 -- tracks, and what a plan of one step comes to on each
 unfoldable pub firstSteps : List (List ℕ × Played)
@@ -36,7 +36,7 @@ firstSteps =
     ∷ (twoRuns 173, stuck)
     -- a run of no samples: its flags touch no sample, and it has none to be stuck at
     ∷ (emptyFirst, passed (0 ∷ 180000 ∷ []))
-    -- 17 broken in a fragment that the plan doesn't come to, and 17 in order: rules 1 to 18 are of the whole track, 22 is not
+    -- 17 broken in a chunk that the plan doesn't come to, and 17 in order: rules 1 to 18 are of the whole track, 22 is not
     ∷ (spare 2, stuck)
     ∷ (spare 1, passed (0 ∷ 180000 ∷ []))
     ∷ []

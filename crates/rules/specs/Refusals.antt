@@ -35,11 +35,11 @@ orderNumbers = 6 ∷ []
 abbrev pub headerNumbers : List ℕ
 headerNumbers = 7 ∷ 8 ∷ 9 ∷ 10 ∷ 11 ∷ 12 ∷ 13 ∷ []
 
--- the shape of a fragment
+-- the shape of a chunk
 abbrev pub shapeNumbers : List ℕ
 shapeNumbers = 14 ∷ 15 ∷ 16 ∷ 17 ∷ 18 ∷ []
 
--- the timing of a fragment
+-- the timing of a chunk
 abbrev pub timingNumbers : List ℕ
 timingNumbers = 19 ∷ 20 ∷ 21 ∷ 22 ∷ []
 
@@ -51,7 +51,7 @@ recordNumbers = 24 ∷ []
 abbrev pub setNumbers : List ℕ
 setNumbers = 25 ∷ 26 ∷ 27 ∷ 28 ∷ []
 
--- what a slice may be refused under before its fragments are looked at
+-- what a slice may be refused under before its chunks are looked at
 abbrev pub frontNumbers : List ℕ
 frontNumbers = lengthNumbers ++ framingNumbers ++ orderNumbers ++ headerNumbers
 
@@ -73,7 +73,7 @@ bundleNumbers = recordNumbers ++ trackNumbers ++ setNumbers
 abbrev pub gatherNumbers : List ℕ
 gatherNumbers = 29 ∷ []
 
--- the values of a header and of its fragments
+-- the values of a header and of its chunks
 abbrev pub valueNumbers : List ℕ
 valueNumbers = headerNumbers ++ shapeNumbers ++ timingNumbers
 

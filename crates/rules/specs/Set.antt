@@ -5,7 +5,7 @@ use lib.ListN.{length, drop}
 use lib.Dec.{eqb}
 use Rattle.rules.specs.Rules.{_then_, must, ofTrack, onRule}
 use Rattle.rules.specs.Header.{placesIn}
-use Rattle.rules.specs.Track.{rule1, ruling, moovAt, moovOf, headerOf, fragments, fragmentCount, timescale, boundaries, Outcome, roomOf, refused}
+use Rattle.rules.specs.Track.{rule1, ruling, moovAt, moovOf, headerOf, fragments, firstMoofs, fragmentCount, timescale, boundaries, Outcome, roomOf, refused}
 use Rattle.rules.specs.Bundle.{rule24, tracks}
 use Rattle.rules.specs.declared.Rule.{Rule}
 use Rattle.rules.specs.declared.Rule.the-variants.{Holds}
@@ -30,16 +30,16 @@ abbrev pub firstOr : ℕ → List ℕ → ℕ
 firstOr p [] = p
 firstOr p (x ∷ xs) = x
 
--- 28 over boundaries of track 0, boundaries of the track, and its fragments from here on; the last fragment's place stands in for a missing one.
+-- 28 over boundaries of track 0, boundaries of the track, and the places of its fragments from here on; the last one's stands in for a missing one.
 -- It is tried behind 27: of two tracks with one number of fragments, so with one number of boundaries.
 unfoldable pub rule28From : ℕ → List ℕ → List ℕ → List ℕ → Rule
 rule28From last [] ys ps = Holds
 rule28From last (x ∷ xs) ys ps =
     must (eqb (firstOr 0 ys) x) 28 (firstOr last ps) then rule28From (firstOr last ps) xs (drop 1 ys) (drop 1 ps)
 
--- 28: a boundary differs from track 0; place, the `moof` of fragment k, of the last fragment if k is F
+-- 28: a boundary differs from track 0; place, the first `moof` of fragment k, of the last fragment if k is F
 unfoldable pub rule28 : List ℕ → List ℕ → Rule
-rule28 s₀ s = rule28From 0 (boundaries s₀) (boundaries s) (fragments s)
+rule28 s₀ s = rule28From 0 (boundaries s₀) (boundaries s) (firstMoofs (fragments s))
 
 -- a track beside track 0: handler (25), timescale (26), number of fragments (27), boundaries (28)
 unfoldable pub agrees : List ℕ → List ℕ → Rule

@@ -1,6 +1,7 @@
 -- The track: what its bytes say, whether every rule holds, and the outcome of the index job and the track job.
 use Prim.Native.Nat.{ℕ, _+_, _-_}
 use mathlib.Core.List.{List, [], _∷_, _++_, map}
+use mathlib.Core.Bool.{Bool}
 use lib.ListN.{length, drop}
 use lib.Dec.{leb, ltb}
 use Rattle.numbers.specs.Numbers.{when}
@@ -12,7 +13,7 @@ use Rattle.rules.specs.Counts.{seen, firstOf}
 use Rattle.rules.specs.Framing.{framed, onFraming, rulesOfFraming, rows}
 use Rattle.rules.specs.Order.{rule6}
 use Rattle.rules.specs.Header.{headerRules, ftypIn, headerIn}
-use Rattle.rules.specs.Fragment.{shape, timing, startOf, endOf}
+use Rattle.rules.specs.Chunk.{shape, timing, startOf, endOf, syncIn}
 use Rattle.rules.specs.declared.Path.the-variants.{Top}
 use Rattle.rules.specs.declared.Entry.the-variants.{One}
 use Rattle.rules.specs.declared.FirstTick.{FirstTick}
@@ -43,38 +44,41 @@ ftypOf s = whole s 0
 unfoldable pub headerOf : List ℕ → Header
 headerOf s = headerIn (moovOf s)
 
--- the fragments from a place on: where each `moof` stands; by rule 6 its `mdat` is the next box
-unfoldable pub fragmentsFrom : List ℕ → ℕ → List ℕ
-fragmentsFrom s at = placesOf moof (boxes s at)
+-- the chunks from a place on: where each `moof` stands; by rule 6 its `mdat` is the next box
+unfoldable pub chunksFrom : List ℕ → ℕ → List ℕ
+chunksFrom s at = placesOf moof (boxes s at)
 
-abbrev pub fragments : List ℕ → List ℕ
-fragments s = fragmentsFrom s 0
+abbrev pub chunks : List ℕ → List ℕ
+chunks s = chunksFrom s 0
 
--- the `mdat` of the fragment at x
+-- the `mdat` of the chunk at x
 unfoldable pub mdatAt : List ℕ → ℕ → ℕ
 mdatAt s x = x + length (whole s x)
 
--- 14 to 18 of the fragment at x
+-- 14 to 18 of the chunk at x
 unfoldable pub shapeAt : List ℕ → Header → ℕ → Rule
 shapeAt s h x = moved x (shape (whole s x) (h .id))
 
--- 19 to 22 of the fragment at x, after the previous end
+-- 19 to 22 of the chunk at x, after the previous end
 unfoldable pub timingAt : List ℕ → Header → Previous → ℕ → Rule
 timingAt s h prev x =
     moved x (timing (whole s x) (h .defaults) (headOf s (mdatAt s x)) (sizeOf s (mdatAt s x) - headOf s (mdatAt s x)) prev)
 
--- the fragment at x: its start and its end
+-- the chunk at x: its start, its end, and whether its first sample is sync
 unfoldable pub startAt : List ℕ → ℕ → ℕ
 startAt s x = startOf (whole s x)
 
 unfoldable pub endAt : List ℕ → Header → ℕ → ℕ
 endAt s h x = endOf (whole s x) (h .defaults)
 
--- 14 to 22, fragment by fragment, after the previous end
-unfoldable pub rulesOfFragments : List ℕ → Header → Previous → List ℕ → Rule
-rulesOfFragments s h prev [] = Holds
-rulesOfFragments s h prev (x ∷ xs) =
-    shapeAt s h x then timingAt s h prev x then rulesOfFragments s h (End (endAt s h x)) xs
+unfoldable pub syncAt : List ℕ → Header → ℕ → Bool
+syncAt s h x = syncIn (whole s x) (h .defaults)
+
+-- 14 to 22, chunk by chunk, after the previous end
+unfoldable pub rulesOfChunks : List ℕ → Header → Previous → List ℕ → Rule
+rulesOfChunks s h prev [] = Holds
+rulesOfChunks s h prev (x ∷ xs) =
+    shapeAt s h x then timingAt s h prev x then rulesOfChunks s h (End (endAt s h x)) xs
 
 -- 7 to 13 of a track
 unfoldable pub rulesOfHeader : List ℕ → Rule
@@ -87,7 +91,36 @@ ruling s =
     then rulesOfFraming s
     then rule6 s
     then rulesOfHeader s
-    then rulesOfFragments s (headerOf s) Unset (fragments s)
+    then rulesOfChunks s (headerOf s) Unset (chunks s)
+
+-- a fragment: where its first chunk stands, and where those stand that continue it
+pub record Fragment : Type 0 where
+  pub first : ℕ
+  pub others : List ℕ
+
+-- of the chunks behind one, those that continue its fragment: up to the next that begins one
+unfoldable pub continuing : (ℕ → Bool) → List ℕ → List ℕ
+continuing sync [] = []
+continuing sync (x ∷ xs) = when (sync x) [] (x ∷ continuing sync xs)
+
+-- the fragments that begin among chunks: where a first sample is sync
+unfoldable pub begunAmong : (ℕ → Bool) → List ℕ → List Fragment
+begunAmong sync [] = []
+begunAmong sync (x ∷ xs) =
+    when (sync x) (record { first = x; others = continuing sync xs } ∷ begunAmong sync xs) (begunAmong sync xs)
+
+-- a track's chunks in fragments: the first begins one in any case
+unfoldable pub inFragments : (ℕ → Bool) → List ℕ → List Fragment
+inFragments sync [] = []
+inFragments sync (x ∷ xs) = record { first = x; others = continuing sync xs } ∷ begunAmong sync xs
+
+-- the fragments of a track
+unfoldable pub fragments : List ℕ → List Fragment
+fragments s = inFragments (syncAt s (headerOf s)) (chunks s)
+
+-- where each fragment's first `moof` stands
+abbrev pub firstMoofs : List Fragment → List ℕ
+firstMoofs fs = map (λ f. f .first) fs
 
 -- the number of fragments, and the timescale
 unfoldable pub fragmentCount : List ℕ → ℕ
@@ -96,12 +129,12 @@ fragmentCount s = length (fragments s)
 unfoldable pub timescale : List ℕ → ℕ
 timescale s = headerOf s .timescale
 
--- the start of the first of fragments at places
+-- the start of the first of chunks at places
 abbrev pub firstTickOf : List ℕ → List ℕ → FirstTick
 firstTickOf s [] = firstTick.Unset
 firstTickOf s (x ∷ xs) = firstTick.Tick (startAt s x)
 
--- the end of the last of fragments at places, after an end before them
+-- the end of the last of chunks at places, after an end before them
 unfoldable pub lastEnd : List ℕ → Header → Previous → List ℕ → Previous
 lastEnd s h prev [] = prev
 lastEnd s h prev (x ∷ xs) = lastEnd s h (End (endAt s h x)) xs
@@ -111,16 +144,16 @@ abbrev pub endList : Previous → List ℕ
 endList Unset = []
 endList (End e) = e ∷ []
 
--- the boundaries of fragments at places: each fragment's start, and the last end
+-- the boundaries of a track's chunks at places: each fragment's start, which is its first chunk's, and the last end
 unfoldable pub ticks : List ℕ → Header → List ℕ → List ℕ
-ticks s h xs = map (startAt s) xs ++ endList (lastEnd s h Unset xs)
+ticks s h xs = map (startAt s) (firstMoofs (inFragments (syncAt s h) xs)) ++ endList (lastEnd s h Unset xs)
 
 unfoldable pub boundaries : List ℕ → List ℕ
-boundaries s = ticks s (headerOf s) (fragments s)
+boundaries s = ticks s (headerOf s) (chunks s)
 
 -- the last end of a track
 abbrev pub endOfTrack : List ℕ → Previous
-endOfTrack s = lastEnd s (headerOf s) Unset (fragments s)
+endOfTrack s = lastEnd s (headerOf s) Unset (chunks s)
 
 -- what a job gives back: the verdict, and the lent table afterwards
 pub record Outcome : Type 0 where
@@ -166,6 +199,6 @@ trackOutcome s t =
 
 -- the mark of this file: its definitions unfold wherever it does
 unfoldable pub computedTrack : Unit {0}
-unfolding rule1 moovAt moovOf ftypOf headerOf fragmentsFrom mdatAt shapeAt timingAt startAt endAt rulesOfFragments rulesOfHeader ruling
-    fragmentCount timescale lastEnd ticks boundaries refused accepted roomFor index indexOutcome trackOutcome
+unfolding rule1 moovAt moovOf ftypOf headerOf chunksFrom mdatAt shapeAt timingAt startAt endAt syncAt rulesOfChunks rulesOfHeader ruling
+    continuing begunAmong inFragments fragments fragmentCount timescale lastEnd ticks boundaries refused accepted roomFor index indexOutcome trackOutcome
 computedTrack = tt

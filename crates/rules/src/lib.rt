@@ -63,13 +63,13 @@ pub enum Ftyp {
     Wrong,
 }
 
-// The start of the first fragment: unset before it.
+// The start of the track's first chunk: unset before it.
 pub enum FirstTick {
     Unset,
     Tick(u64),
 }
 
-// The end of the fragment before: unset before the first.
+// The end of the chunk before: unset before the track's first.
 pub enum Previous {
     Unset,
     End(u64),
@@ -125,7 +125,7 @@ pub struct Defaults {
     pub flags: u32,
 }
 
-// What the header tells the fragments and the set.
+// What the header tells the chunks and the set.
 pub struct Header {
     pub timescale: u32,
     pub id: u32,
@@ -133,13 +133,14 @@ pub struct Header {
     pub defaults: Defaults,
 }
 
-// What is known of a track: what its header tells, where `mdhd` and `hdlr` stand in it, the number of its fragments, their first start and
-// their last end.
+// What is known of a track: what its header tells, where `mdhd` and `hdlr` stand in it, the number of its fragments, whether the first sample of
+// each chunk is sync, so that each begins one, the first start and the last end.
 pub struct TrackFacts {
     pub header: Header,
     pub mdhd: u64,
     pub hdlr: u64,
     pub fragments: u64,
+    pub plain: bool,
     pub start: FirstTick,
     pub end: Previous,
 }
@@ -151,7 +152,7 @@ pub enum Judged {
 }
 
 // A stage of rule 6 with what the boxes up to it brought: nothing yet; what `ftyp` tells; the header's rules; a `moof` that waits for its
-// `mdat`; a fragment's rules.
+// `mdat`; a chunk's rules.
 pub enum Reached {
     Start,
     Typed(Ftyp),

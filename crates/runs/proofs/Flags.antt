@@ -4,7 +4,7 @@ use mathlib.Core.Bool.{true, false}
 use Prim.Native.Nat.{ℕ, _+_, _≤_}
 use native.Mathlib.Omega.{arith}
 use Rattle.numbers.specs.Numbers.{has}
-use Rattle.rules.specs.Fragment.{bytesFor, runHead, stride}
+use Rattle.rules.specs.Chunk.{bytesFor, runHead, stride}
 
 pub bytes-set : (n f w : ℕ) → has f w ≡ true → bytesFor n f w ≡ n
 unfolding bytesFor

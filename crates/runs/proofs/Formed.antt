@@ -6,7 +6,7 @@ use Prim.Native.Nat.{ℕ, _+_, _-_, _*_, _<_, _≤_}
 use native.Mathlib.Omega.{arith}
 use native.Mathlib.Nat.{mul-le-mul}
 use Rattle.rules.specs.Fields.{Form, flagsOf, field, either, hasForm, body}
-use Rattle.rules.specs.Fragment.{runHead, stride, countOf, runSize, runForm}
+use Rattle.rules.specs.Chunk.{runHead, stride, countOf, runSize, runForm}
 use Rattle.rules.specs.declared.Rule.the-variants.{Holds, Breaks}
 use Rattle.rules.specs.declared.Spot.{Spot}
 use Rattle.rules.proofs.Then.{must-true, must-false}

@@ -1,3 +1,4 @@
+pub mod First
 pub mod Flags
 pub mod Formed
 pub mod Sums

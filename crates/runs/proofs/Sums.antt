@@ -14,7 +14,7 @@ use Rattle.rules.specs.Rules.{_then_, must}
 use Rattle.rules.specs.declared.Rule.{Rule}
 use Rattle.rules.specs.declared.Defaults.{Defaults}
 use Rattle.rules.specs.declared.Spot.{Spot}
-use Rattle.rules.specs.Fragment.{bytesFor, runHead, stride, sampleAt, durationOf, bytesOf, sumTo, runDuration, runBytes, firstFlagsOf, isSync, placed}
+use Rattle.rules.specs.Chunk.{bytesFor, runHead, stride, sampleAt, durationOf, bytesOf, sumTo, runDuration, runBytes, firstFlagsOf, isSync, placed}
 use Rattle.runs.specs.Trun.{FilledRun}
 use Rattle.runs.specs.Runs.{SmallSums, AndSamples}
 use Rattle.runs.specs.declared.Span.{Span}

@@ -16,7 +16,7 @@ use Rattle.rules.specs.Limits.{sampleLimit}
 use Rattle.rules.specs.Boxes.{look, boxes, placesOf}
 use Rattle.rules.specs.Rules.{_then_, must, placedUpTo}
 use Rattle.rules.specs.Fields.{flagsOf, body}
-use Rattle.rules.specs.Fragment.{runHead, stride, countOf, runForm, rule15runs, notBoth, rule16runs, samplesOf, runBytes, durationsOf, bytesIn, firstFlagsOf, firstFlags, isSync, rule22runs}
+use Rattle.rules.specs.Chunk.{runHead, stride, countOf, runForm, rule15runs, notBoth, rule16runs, samplesOf, runBytes, durationsOf, bytesIn, firstFlagsOf, firstFlags, isSync, rule22runs}
 use Rattle.rules.specs.declared.Look.{Look}
 use Rattle.rules.specs.declared.Look.the-variants.{Good}
 use Rattle.rules.specs.declared.Rule.{Rule}

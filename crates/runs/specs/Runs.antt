@@ -1,4 +1,4 @@
--- The runs of a fragment: what the walk over them knows, and what it answers.
+-- The runs of a chunk: what the walk over them knows, and what it answers.
 use Prim.Native.Nat.{ℕ, _+_, _*_, _≤_}
 use mathlib.Core.Path.{_≡_}
 use mathlib.Core.List.{List, [], _∷_}
@@ -11,8 +11,8 @@ use Rattle.rules.specs.Limits.{sampleLimit}
 use Rattle.rules.specs.Boxes.{boxes, placesOf}
 use Rattle.rules.specs.Rules.{_then_, must, placedUpTo}
 use Rattle.rules.specs.Fields.{wrongBody, body}
-use Rattle.rules.specs.Fragment.{runForm, firstFlagsOf, runDuration, runBytes, samplesOf, durationsOf, bytesIn, firstFlags}
-use Rattle.rules.specs.Fragment.{rule15runs, rule16runs, rule22run, rule22runs, isSync}
+use Rattle.rules.specs.Chunk.{runForm, firstFlagsOf, runDuration, runBytes, samplesOf, durationsOf, bytesIn, firstFlags}
+use Rattle.rules.specs.Chunk.{rule15runs, rule16runs, rule22run, rule22runs, isSync}
 use Rattle.rules.specs.declared.Rule.{Rule}
 use Rattle.rules.specs.declared.Rule.the-variants.{Holds, Breaks}
 use Rattle.rules.specs.declared.Defaults.{Defaults}

@@ -3,7 +3,7 @@ use Prim.Native.Nat.{ℕ, _+_, _*_, _≤_}
 use mathlib.Core.Path.{_≡_}
 use mathlib.Core.List.{List}
 use Rattle.numbers.specs.Numbers.{be4}
-use Rattle.rules.specs.Fragment.{sumTo}
+use Rattle.rules.specs.Chunk.{sumTo}
 
 -- the four-byte number i steps from a place
 abbrev pub everyFour : List ℕ → ℕ → ℕ → ℕ → ℕ

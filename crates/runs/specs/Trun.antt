@@ -3,7 +3,7 @@ use Prim.Native.Nat.{ℕ, _+_, _*_}
 use mathlib.Core.Path.{_≡_}
 use mathlib.Core.List.{List}
 use Rattle.rules.specs.Fields.{flagsOf, wrongBody, body}
-use Rattle.rules.specs.Fragment.{runForm, runHead, stride, countOf}
+use Rattle.rules.specs.Chunk.{runForm, runHead, stride, countOf}
 use Rattle.rules.specs.declared.Rule.the-variants.{Holds}
 use Rattle.rules.specs.declared.Spot.{Spot}
 use Rattle.boxes.specs.Stands.{Stands}

@@ -1,7 +1,7 @@
 // Where the fields of a run stand, by its flags.
 ghost use mathlib.Core.Path.{_≡_};
 ghost use Prim.Native.Nat.{_<_, _≤_};
-ghost use Rattle.rules.specs.Fragment.{bytesFor, runHead, stride};
+ghost use Rattle.rules.specs.Chunk.{bytesFor, runHead, stride};
 
 // n bytes where a flag is set.
 pub fn bytes_for(n: usize, flags: u32, w: u32) -> usize

@@ -1,11 +1,11 @@
-// The runs of a fragment in one walk: rules 15 and 16 of them, their samples in all, and, while they are asked for, what the samples
+// The runs of a chunk in one walk: rules 15 and 16 of them, their samples in all, and, while they are asked for, what the samples
 // come to, for rules 20 to 22.
 ghost use mathlib.Core.Path.{_≡_};
 ghost use Prim.Native.Nat.{_+_, _*_, _≤_};
 ghost use lib.ListN.{length, take};
 ghost use Rattle.rules.specs.Limits.{byteLimit, sampleLimit};
 ghost use Rattle.rules.specs.Fields.{flagsOf};
-ghost use Rattle.rules.specs.Fragment.{runHead, stride, notBoth, firstFlagsOf, isSync, placed};
+ghost use Rattle.rules.specs.Chunk.{runHead, stride, notBoth, firstFlagsOf, isSync, placed};
 ghost use Rattle.boxes.specs.Stands.{Stands};
 ghost use Rattle.runs.specs.Trun.{FilledRun};
 ghost use Rattle.runs.specs.Runs.{runsAt, saysDue, SmallSums, Low, syncAfter, AndSamples, saysNext, saysRuns};
@@ -16,11 +16,12 @@ use rules::Rule;
 use rules::Spot;
 use trun::Trun;
 
+pub mod again;
 pub mod layout;
 mod samples;
 mod trun;
 
-// Rule 18: the samples of a fragment.
+// Rule 18: the samples of a chunk.
 pub const SAMPLE_LIMIT: u64 = 65536;
 
 // What the samples of runs span: their durations and sizes in all, whether no run was passed, whether the first sample, once there is

@@ -2,7 +2,7 @@
 ghost use Prim.Native.Nat.{_+_, _*_, _≤_};
 ghost use lib.ListN.{length};
 ghost use Rattle.rules.specs.Limits.{sampleLimit};
-ghost use Rattle.rules.specs.Fragment.{durationOf, bytesOf};
+ghost use Rattle.rules.specs.Chunk.{durationOf, bytesOf};
 ghost use Rattle.runs.specs.Trun.{FilledRun};
 ghost use Rattle.runs.specs.Samples.{everyFour, Summed};
 use crate::layout;

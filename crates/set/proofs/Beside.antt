@@ -1,14 +1,15 @@
 -- Laws of rules 25 to 28: the boundaries side by side, and the rules in their order.
-use mathlib.Core.Path.{_≡_, refl, sym, ap, ap₂, _∙_}
+use mathlib.Core.Path.{_≡_, refl, sym, ap, ap₂, subst, _∙_}
 use mathlib.Core.List.{List, [], _∷_}
 use mathlib.Core.Bool.{false}
 use Prim.Native.Nat.{ℕ, _≤_}
 use native.Mathlib.Omega.{arith}
-use lib.ListN.{length}
+use lib.ListN.{length, length-map}
 use lib.Dec.{eqb}
 use borrow.Author.Tests.{eq-eqb, ne-eqb, eqb-true}
 use Rattle.rules.specs.Rules.{_then_, must}
-use Rattle.rules.specs.Track.{headerOf, fragments, fragmentsFrom, fragmentCount, timescale, lastEnd, endList, endOfTrack}
+use Rattle.rules.specs.Limits.{byteLimit}
+use Rattle.rules.specs.Track.{headerOf, chunks, fragments, firstMoofs, fragmentCount, timescale, endAt, lastEnd, endList}
 use Rattle.rules.specs.Set.{handler, hdlrAt, mdhdAt, same, rule28, rule28From, agrees}
 use Rattle.rules.specs.Course.{factsOf}
 use Rattle.rules.specs.declared.Header.{Header}
@@ -17,55 +18,85 @@ use Rattle.rules.specs.declared.Previous.the-variants.{Unset, End}
 use Rattle.rules.specs.declared.Rule.{Rule}
 use Rattle.rules.specs.declared.Rule.the-variants.{Holds, Breaks}
 use Rattle.rules.specs.declared.TrackFacts.{TrackFacts}
+use Rattle.rules.proofs.Sound.{accepted-keeps}
+use Rattle.rules.proofs.Walk.{some-chunk}
 use Rattle.rules.proofs.Then.{then-holds, then-breaks, then-last, then-second, then-assoc, must-true, must-false, must-holds}
 use Rattle.track.specs.Course.{Known}
-use Rattle.track.specs.Cursor.{NextAt}
-use Rattle.track.proofs.Table.{written, boundaries-written, known-count}
+use Rattle.track.specs.Cursor.{begunFrom, EachSync, NextAt}
+use Rattle.track.proofs.Table.{written, known-count, known-end, known-short, known-begun, known-sync, known-written}
 use Rattle.set.specs.Says.{sameEnd}
 
--- two ends: both are set, or neither is
-pub data BothEnds : Previous → Previous → Type 0 where
-  neither : BothEnds Unset Unset
-  both : {a b : ℕ} → BothEnds (End a) (End b)
+-- an end that is set
+abbrev IsSet : Previous → Type 0
+IsSet Unset = ⊥
+IsSet (End e) = Unit {0}
 
--- they stay so after as many fragments
-both-stay : (s₀ s : List ℕ) (h₀ h : Header) {a b : Previous} (xs ys : List ℕ) → BothEnds a b → length ys ≡ length xs
-    → BothEnds (lastEnd s₀ h₀ a xs) (lastEnd s h b ys)
+-- chunks behind an end lead to an end, and so does a chunk
+ends-behind : (s : List ℕ) (h : Header) (e : ℕ) (xs : List ℕ) → IsSet (lastEnd s h (End e) xs)
 unfolding lastEnd
-both-stay s₀ s h₀ h [] [] i e = i
-both-stay s₀ s h₀ h [] (y ∷ ys) i e = absurd (omega arith)
-both-stay s₀ s h₀ h (x ∷ xs) [] i e = absurd (omega arith)
-both-stay s₀ s h₀ h (x ∷ xs) (y ∷ ys) i e = both-stay s₀ s h₀ h xs ys both (omega arith)
+ends-behind s h e [] = tt
+ends-behind s h e (x ∷ xs) = ends-behind s h (endAt s h x) xs
+
+ends-some : (s : List ℕ) (h : Header) (xs : List ℕ) → 1 ≤ length xs → IsSet (lastEnd s h Unset xs)
+unfolding lastEnd
+ends-some s h [] l = absurd (omega arith)
+ends-some s h (x ∷ xs) l = ends-behind s h (endAt s h x) xs
+
+-- an accepted track has an end
+known-set : (s : List ℕ) (f : TrackFacts) → Known s f → IsSet (f .end)
+known-set s f k =
+    subst IsSet (sym (known-end s f k)) (ends-some s (headerOf s) (chunks s) (some-chunk s (accepted-keeps s (k .holds) .0 .2)))
 
 -- rule 28 where no fragment is left
-ends : {end₀ end : Previous} (place : ℕ) → BothEnds end₀ end → rule28From place (endList end₀) (endList end) [] ≡ must (sameEnd end₀ end) 28 place
-unfolding rule28From must
-ends place neither = refl
-ends place (both {a} {b}) = then-last (must (eqb b a) 28 place)
+ends : (end₀ end : Previous) (place : ℕ) → IsSet end₀ → IsSet end → rule28From place (endList end₀) (endList end) [] ≡ must (sameEnd end₀ end) 28 place
+unfolding rule28From
+ends Unset end place i₀ i = absurd i₀
+ends (End a) Unset place i₀ i = absurd i
+ends (End a) (End b) place i₀ i = then-last (must (eqb b a) 28 place)
+
+-- where the fragments of a track begin from a place on, and its boundaries from there on
+abbrev begunOf : List ℕ → TrackFacts → ℕ → List ℕ
+begunOf s f at = begunFrom s (f .header) at
+
+abbrev leftOf : List ℕ → TrackFacts → ℕ → List ℕ
+leftOf s f at = written s (f .end) (begunOf s f at)
 
 -- rule 28 from here on: two places, the last fragment passed, and what is left of both tracks
-abbrev rest28 : List ℕ → Previous → List ℕ → Previous → ℕ → ℕ → ℕ → Rule
-rest28 s₀ end₀ s end at₀ at last =
-    rule28From last (written s₀ end₀ (fragmentsFrom s₀ at₀)) (written s end (fragmentsFrom s at)) (fragmentsFrom s at)
+abbrev rest28 : List ℕ → TrackFacts → List ℕ → TrackFacts → ℕ → ℕ → ℕ → Rule
+rest28 s₀ f₀ s f at₀ at last = rule28From last (leftOf s₀ f₀ at₀) (leftOf s f at) (begunOf s f at)
 
-pub record BesideGoing (s₀ : List ℕ) (end₀ : Previous) (s : List ℕ) (end : Previous) (at₀ at last : ℕ) : Type 0 where
-  pub rule : rule28 s₀ s ≡ rest28 s₀ end₀ s end at₀ at last
-  pub same : length (fragmentsFrom s at) ≡ length (fragmentsFrom s₀ at₀)
-  pub alike : BothEnds end₀ end
-  pub inner₀ : at₀ ≤ length s₀
+pub record BesideGoing (s₀ : List ℕ) (f₀ : TrackFacts) (s : List ℕ) (f : TrackFacts) (at₀ at last : ℕ) : Type 0 where
+  pub rule : rule28 s₀ s ≡ rest28 s₀ f₀ s f at₀ at last
+  pub same : length (begunOf s f at) ≡ length (begunOf s₀ f₀ at₀)
+  pub set₀ : IsSet (f₀ .end)
+  pub set : IsSet (f .end)
+  pub short₀ : length s₀ ≤ byteLimit
+  pub short : length s ≤ byteLimit
+  pub sync₀ : EachSync (f₀ .plain) s₀ (f₀ .header) at₀
+  pub sync : EachSync (f .plain) s (f .header) at
 
-pub beside-begins : (s₀ s : List ℕ) {end₀ end : Previous} → end₀ ≡ endOfTrack s₀ → end ≡ endOfTrack s
-    → fragmentCount s ≡ fragmentCount s₀ → BesideGoing s₀ end₀ s end 0 0 0
-unfolding rule28 fragmentCount
-beside-begins s₀ s e₀ e n =
+-- as many places as fragments
+moofs-length : (s : List ℕ) → length (firstMoofs (fragments s)) ≡ fragmentCount s
+unfolding fragmentCount
+moofs-length s = length-map (fragments s) (λ f. f .first)
+
+pub beside-begins : (s₀ s : List ℕ) {f₀ f : TrackFacts} → Known s₀ f₀ → Known s f
+    → fragmentCount s ≡ fragmentCount s₀ → BesideGoing s₀ f₀ s f 0 0 0
+unfolding rule28
+beside-begins s₀ s {f₀} {f} k₀ k n =
+    let b₀ = known-begun s₀ f₀ k₀ in
+    let b = known-begun s f k in
     record {
       rule =
-          ap₂ (λ (x y : List ℕ). rule28From 0 x y (fragments s))
-          (boundaries-written s₀ ∙ ap (λ (l : Previous). written s₀ l (fragments s₀)) (sym e₀))
-          (boundaries-written s ∙ ap (λ (l : Previous). written s l (fragments s)) (sym e));
-      same = n;
-      alike = rw (e₀, e) (both-stay s₀ s (headerOf s₀) (headerOf s) (fragments s₀) (fragments s) neither n);
-      inner₀ = omega arith;
+          ap₂ (λ (x y : List ℕ). rule28From 0 x y (firstMoofs (fragments s))) (sym (known-written s₀ f₀ k₀)) (sym (known-written s f k))
+          ∙ ap (rule28From 0 (leftOf s₀ f₀ 0) (leftOf s f 0)) (sym b);
+      same = ap length b ∙ moofs-length s ∙ n ∙ sym (ap length b₀ ∙ moofs-length s₀);
+      set₀ = known-set s₀ f₀ k₀;
+      set = known-set s f k;
+      short₀ = known-short s₀ f₀ k₀;
+      short = known-short s f k;
+      sync₀ = known-sync s₀ f₀ k₀;
+      sync = known-sync s f k;
     }
 
 -- no places are left
@@ -73,37 +104,41 @@ empty : (xs : List ℕ) → length xs ≡ 0 → xs ≡ []
 empty [] e = refl
 empty (x ∷ xs) e = absurd (omega arith)
 
-module _ (s₀ : List ℕ) {end₀ : Previous} (s : List ℕ) {end : Previous} {at₀ at last : ℕ} (g : BesideGoing s₀ end₀ s end at₀ at last) where
+module _ (s₀ : List ℕ) {f₀ : TrackFacts} (s : List ℕ) {f : TrackFacts} {at₀ at last : ℕ} (g : BesideGoing s₀ f₀ s f at₀ at last) where
   -- the last boundary
-  pub beside-ends : fragmentsFrom s₀ at₀ ≡ [] → rule28 s₀ s ≡ must (sameEnd end₀ end) 28 last
+  pub beside-ends : begunOf s₀ f₀ at₀ ≡ [] → rule28 s₀ s ≡ must (sameEnd (f₀ .end) (f .end)) 28 last
   unfolding written
   beside-ends e =
       g .rule
-      ∙ ap₂ (λ (x y : List ℕ). rule28From last (written s₀ end₀ x) (written s end y) y) e
-      (empty (fragmentsFrom s at) (omega (arith, g .same, ap length e)))
-      ∙ ends last (g .alike)
+      ∙ ap₂ (λ (x y : List ℕ). rule28From last (written s₀ (f₀ .end) x) (written s (f .end) y) y) e
+      (empty (begunOf s f at) (omega (arith, g .same, ap length e)))
+      ∙ ends (f₀ .end) (f .end) last (g .set₀) (g .set)
 
-  module _ {p₀ q₀ v₀ : ℕ} (c₀ : NextAt s₀ at₀ p₀ q₀ v₀) where
+  module _ {p₀ q₀ v₀ : ℕ} (c₀ : NextAt s₀ (f₀ .header) at₀ p₀ q₀ v₀) where
     -- the other track has a fragment too
-    pub beside-short : fragmentsFrom s at ≡ [] → ⊥
+    pub beside-short : begunOf s f at ≡ [] → ⊥
     beside-short e = omega (arith, g .same, ap length e, ap length (c₀ .places))
 
-    module _ {p q v : ℕ} (c : NextAt s at p q v) where
+    module _ {p q v : ℕ} (c : NextAt s (f .header) at p q v) where
       -- one boundary of both
-      beside-step : rule28 s₀ s ≡ (must (eqb v v₀) 28 p then rest28 s₀ end₀ s end q₀ q p)
+      beside-step : rule28 s₀ s ≡ (must (eqb v v₀) 28 p then rest28 s₀ f₀ s f q₀ q p)
       unfolding rule28From written
       beside-step =
           g .rule
-          ∙ ap₂ (λ (x y : List ℕ). rule28From last (written s₀ end₀ x) (written s end y) y) (c₀ .places) (c .places)
-          ∙ ap₂ (λ (x y : ℕ). must (eqb y x) 28 p then rest28 s₀ end₀ s end q₀ q p) (sym (c₀ .start)) (sym (c .start))
+          ∙ ap₂ (λ (x y : List ℕ). rule28From last (written s₀ (f₀ .end) x) (written s (f .end) y) y) (c₀ .places) (c .places)
+          ∙ ap₂ (λ (x y : ℕ). must (eqb y x) 28 p then rest28 s₀ f₀ s f q₀ q p) (sym (c₀ .start)) (sym (c .start))
 
-      pub beside-on : v ≡ v₀ → BesideGoing s₀ end₀ s end q₀ q p
+      pub beside-on : v ≡ v₀ → BesideGoing s₀ f₀ s f q₀ q p
       beside-on e =
           record {
             rule = beside-step ∙ then-holds _ (must-true 28 p (eq-eqb v v₀ e));
             same = omega (arith, g .same, ap length (c .places), ap length (c₀ .places));
-            alike = g .alike;
-            inner₀ = c₀ .inner;
+            set₀ = g .set₀;
+            set = g .set;
+            short₀ = g .short₀;
+            short = g .short;
+            sync₀ = c₀ .sync (f₀ .plain) (g .sync₀);
+            sync = c .sync (f .plain) (g .sync);
           }
 
       pub beside-differs : (v ≡ v₀ → ⊥) → rule28 s₀ s ≡ must false 28 p

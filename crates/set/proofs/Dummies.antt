@@ -6,7 +6,7 @@ use lib.Dec.{eqb}
 use lib.ListN.{length, set, getD}
 use Rattle.rules.specs.Bytes.{trackT}
 use Rattle.rules.specs.Computed.{computed}
-use Rattle.rules.specs.Examples.{nines, refusedAt, acceptance}
+use Rattle.rules.specs.Examples.{nines, refusedAt, refusedOf, acceptance, acceptedOver}
 use Rattle.rules.specs.Bundle.{tracks}
 use Rattle.rules.specs.Jobs.{Job, Shut, Dummy, writes-past, Shown}
 use Rattle.rules.specs.Track.{Outcome, accepted, boundaries}
@@ -21,7 +21,7 @@ unfoldable twice : List ℕ → List ℕ
 twice s = recordOf s ++ recordOf s
 
 T-twice-is : setOutcome (twice trackT) nines ≡ acceptance
-unfolding computed twice acceptance
+unfolding computed twice acceptedOver
 T-twice-is = refl
 
 half-twice-is : setOutcome (twice half) nines ≡ accepted 1 90000 (0 ∷ 180000 ∷ []) nines
@@ -29,11 +29,11 @@ unfolding computed twice half
 half-twice-is = refl
 
 none-is : setOutcome [] nines ≡ refusedAt 24 0
-unfolding computed refusedAt
+unfolding computed refusedOf
 none-is = refl
 
 shown : Shown setOutcome
-unfolding computed twice half acceptance refusedAt
+unfolding computed twice half acceptedOver refusedOf
 shown =
     record {
       good = twice trackT;

@@ -1,9 +1,6 @@
 // Rules 25 to 28: a track beside track 0.
 ghost use mathlib.Core.Path.{_≡_};
-ghost use Prim.Native.Nat.{_≤_};
-ghost use lib.ListN.{length};
-ghost use Rattle.rules.specs.Limits.{byteLimit};
-ghost use Rattle.rules.specs.Track.{fragmentCount, endOfTrack};
+ghost use Rattle.rules.specs.Track.{fragmentCount};
 ghost use Rattle.rules.specs.Set.{rule28, agrees};
 ghost use Rattle.track.specs.Course.{Known};
 ghost use Rattle.set.specs.Says.{sameEnd};
@@ -32,16 +29,17 @@ fn same_end(end0: Previous, end: Previous) -> bool
 }
 
 // Rule 28: both tracks' fragments side by side; each boundary is the start of a fragment, the last one an end.
-fn same_boundaries(s0: &[u8], end0: Previous, s: &[u8], end: Previous) -> Rule
-    requires { ⌜ (length (now s0) ≤ byteLimit) × (length (now s) ≤ byteLimit) ⌝ }
-    requires { ⌜ (end0 ≡ endOfTrack (now s0)) × (end ≡ endOfTrack (now s)) × (fragmentCount (now s) ≡ fragmentCount (now s0)) ⌝ }
+fn same_boundaries(s0: &[u8], f0: TrackFacts, s: &[u8], f: TrackFacts) -> Rule
+    requires { ⌜ Known (now s0) f0 × Known (now s) f × (fragmentCount (now s) ≡ fragmentCount (now s0)) ⌝ }
     ensures { λ r. ⌜ r ≡ rule28 (now (s0 .entry)) (now (s .entry)) ⌝ }
 {
+    let end0 = f0.end;
+    let end = f.end;
     let mut at0: usize = 0;
     let mut at: usize = 0;
     let mut last: usize = 0;
     loop {
-        let c0 = next_fragment(s0, at0);
+        let c0 = next_fragment(s0, at0, f0.header, f0.plain);
         let Cursor::At {
             next: next0,
             start: start0,
@@ -50,7 +48,7 @@ fn same_boundaries(s0: &[u8], end0: Previous, s: &[u8], end: Previous) -> Rule
         else {
             return must(same_end(end0, end), 28, last as u64);
         };
-        let c = next_fragment(s, at);
+        let c = next_fragment(s, at, f.header, f.plain);
         let Cursor::At { place, next, start } = c else {
             return must(same_end(end0, end), 28, last as u64);
         };
@@ -76,10 +74,6 @@ pub fn agrees(s0: &[u8], f0: TrackFacts, s: &[u8], f: TrackFacts) -> Rule
     let facts = first_broken(rule25, first_broken(rule26, rule27));
     match facts {
         Rule::Breaks { .. } => facts,
-        Rule::Holds => {
-            let end0 = f0.end;
-            let end = f.end;
-            same_boundaries(s0, end0, s, end)
-        }
+        Rule::Holds => same_boundaries(s0, f0, s, f),
     }
 }

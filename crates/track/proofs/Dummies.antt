@@ -4,9 +4,9 @@ use mathlib.Core.List.{List, [], _∷_, _++_}
 use mathlib.Core.Path.{_≡_, refl, ap}
 use lib.Dec.{eqb}
 use lib.ListN.{length, set, getD}
-use Rattle.rules.specs.Bytes.{zeros, boxed, header, fragment, trackT}
+use Rattle.rules.specs.Bytes.{zeros, boxed, header, chunk, trackT}
 use Rattle.rules.specs.Computed.{computed}
-use Rattle.rules.specs.Examples.{free, nines, refusedAt, acceptance}
+use Rattle.rules.specs.Examples.{free, nines, refusedAt, refusedOf, acceptance, acceptedOver}
 use Rattle.rules.specs.Jobs.{Job, Shut, Dummy, writes-past, Shown}
 use Rattle.rules.specs.Track.{Outcome, accepted, boundaries, trackOutcome}
 use Rattle.rules.proofs.Jobs.{shut, left-past}
@@ -14,10 +14,10 @@ use Rattle.rules.proofs.Refusals.{track-refusals}
 
 -- T's first fragment alone, with a `free` box as long as the second
 unfoldable pub half : List ℕ
-half = header ++ fragment 0 108 30 ++ boxed free (zeros 130)
+half = header ++ chunk 0 108 30 ++ boxed free (zeros 130)
 
 T-is : trackOutcome trackT nines ≡ acceptance
-unfolding computed acceptance
+unfolding computed acceptedOver
 T-is = refl
 
 half-is : trackOutcome half nines ≡ accepted 1 90000 (0 ∷ 180000 ∷ []) nines
@@ -25,11 +25,11 @@ unfolding computed half
 half-is = refl
 
 none-is : trackOutcome [] nines ≡ refusedAt 6 0
-unfolding computed refusedAt
+unfolding computed refusedOf
 none-is = refl
 
 shown : Shown trackOutcome
-unfolding computed half acceptance refusedAt
+unfolding computed half acceptedOver refusedOf
 shown =
     record {
       good = trackT;

@@ -1,7 +1,7 @@
--- Laws of one box more: the header and a fragment by what their own checks answer, and what a course fits.
+-- Laws of one box more: the header and a chunk by what their own checks answer, and what a course fits.
 use mathlib.Core.Path.{_≡_, refl, sym, subst, _∙_}
 use mathlib.Core.List.{List}
-use mathlib.Core.Bool.{Bool, true, false, not, true≢false}
+use mathlib.Core.Bool.{Bool, true, false, not, _&&_, true≢false}
 use mathlib.Core.Logic.{_⊎_, inl, inr, ⊎-elim}
 use Prim.Native.Nat.{ℕ, _+_, _-_, _≤_}
 use native.Mathlib.Omega.{arith}
@@ -11,7 +11,7 @@ use Rattle.rules.specs.Rules.{_then_}
 use Rattle.rules.specs.Boxes.{Box}
 use Rattle.rules.specs.Order.{ordered, awaits, step6}
 use Rattle.rules.specs.Header.{headerRules}
-use Rattle.rules.specs.Fragment.{shape, timing, startOf, endOf}
+use Rattle.rules.specs.Chunk.{shape, timing, startOf, endOf, firstRun, syncIn, beginsOne, opens, rule21}
 use Rattle.rules.specs.Course.{judgedBy, openedFacts, opened, orTick, grown, joined, stageOf, spotOf, brought, andBox}
 use Rattle.rules.specs.declared.Course.{Course}
 use Rattle.rules.specs.declared.Course.the-variants.{On, Broken}
@@ -20,6 +20,7 @@ use Rattle.rules.specs.declared.FirstTick.the-variants as firstTick
 use Rattle.rules.specs.declared.Ftyp.{Ftyp}
 use Rattle.rules.specs.declared.Judged.{Judged}
 use Rattle.rules.specs.declared.Judged.the-variants.{Accepted, Refused}
+use Rattle.rules.specs.declared.Previous.{Previous}
 use Rattle.rules.specs.declared.Previous.the-variants.{Unset, End}
 use Rattle.rules.specs.declared.Reached.{Reached}
 use Rattle.rules.specs.declared.Reached.the-variants.{Start, Typed, Headed, Halved, Paired}
@@ -30,8 +31,8 @@ use Rattle.rules.specs.declared.Stage.{Stage}
 use Rattle.rules.specs.declared.Stepped.{Stepped}
 use Rattle.rules.specs.declared.Stepped.the-variants.{To, Wrong}
 use Rattle.rules.specs.declared.TrackFacts.{TrackFacts}
-use Rattle.rules.proofs.OnePass.{after-box}
-use Rattle.rules.proofs.Then.{moved-then, moved-holds, moved-breaks}
+use Rattle.rules.proofs.OnePass.{after-box, grown-few}
+use Rattle.rules.proofs.Then.{then-first, then-second, must-holds, moved-then, moved-holds, moved-breaks}
 use Rattle.boxes.specs.Stands.{Stands}
 use Rattle.header.specs.Answers.{FactsIn}
 use Rattle.header.specs.declared.HeaderFacts.{HeaderFacts}
@@ -49,7 +50,7 @@ judged-breaks f e = rw e
 -- the header of `moov` at a place, by its own bytes
 module _ (f : Ftyp) (at : ℕ) (m : List ℕ) where
   pub header-good : (x : HeaderFacts) → FactsIn m x → headerRules at f m ≡ Holds
-      → Accepted (record { header = x .header; mdhd = at + x .mdhd; hdlr = at + x .hdlr; fragments = 0; start = firstTick.Unset; end = Unset }) ≡ opened f at m
+      → Accepted (record { header = x .header; mdhd = at + x .mdhd; hdlr = at + x .hdlr; fragments = 0; plain = true; start = firstTick.Unset; end = Unset }) ≡ opened f at m
   unfolding opened openedFacts
   header-good x i h = rw (i .header, i .mdhd, i .hdlr) (sym (judged-holds h))
 
@@ -57,22 +58,37 @@ module _ (f : Ftyp) (at : ℕ) (m : List ℕ) where
   unfolding opened
   header-bad h = sym (judged-breaks (openedFacts at m) h)
 
--- the fragment of a `moof` at a place, by its own bytes and the header length and the payload of its `mdat`
+-- the chunk of a `moof` at a place, by its own bytes and the header length and the payload of its `mdat`
 module _ (f : TrackFacts) (at : ℕ) (m : List ℕ) (head payload : ℕ) where
   -- its rules
   abbrev own-rules : Rule
   own-rules = shape m (f .header .id) then timing m (f .header .defaults) head payload (f .end)
 
-  pub fragment-good : (start end : ℕ) (first : FirstTick) → own-rules ≡ Holds → start ≡ startOf m → end ≡ endOf m (f .header .defaults)
-      → first ≡ orTick (f .start) start
-      → Accepted (record { header = f .header; mdhd = f .mdhd; hdlr = f .hdlr; fragments = f .fragments + 1; start = first; end = End end })
+  -- by 21 it begins a fragment exactly where its first sample is sync: the track's first is sync
+  begins-sync : own-rules ≡ Holds → beginsOne (f .end) (syncIn m (f .header .defaults)) ≡ syncIn m (f .header .defaults)
+  unfolding timing rule21 opens beginsOne
+  begins-sync h =
+      by (f .end)
+      (must-holds _ 21 (firstRun m)
+      (then-first (rule21 m (f .header .defaults) (f .end)) _ (then-second _ _ (then-second _ _ (then-second (shape m (f .header .id)) _ h)))))
+    where
+      by : (prev : Previous) → opens prev (syncIn m (f .header .defaults)) ≡ true
+          → beginsOne prev (syncIn m (f .header .defaults)) ≡ syncIn m (f .header .defaults)
+      by Unset o = sym o
+      by (End e) o = refl
+
+  pub chunk-good : (start end count : ℕ) (sync plain : Bool) (first : FirstTick) → own-rules ≡ Holds
+      → (start ≡ startOf m) × (end ≡ endOf m (f .header .defaults)) × (sync ≡ syncIn m (f .header .defaults))
+      → first ≡ orTick (f .start) start → count ≡ f .fragments + when sync 1 0 → plain ≡ (f .plain && sync)
+      → Accepted (record { header = f .header; mdhd = f .mdhd; hdlr = f .hdlr; fragments = count; plain = plain; start = first; end = End end })
       ≡ joined (Accepted f) at m head payload
   unfolding joined grown
-  fragment-good start end first h a e o = rw (o, a, e, ← moved-then) (sym (judged-holds (moved-holds at h)))
+  chunk-good start end count sync plain first h a o c p =
+      rw (o, c, p, a .0, a .1, a .2, ← moved-then, begins-sync h) (sym (judged-holds (moved-holds at h)))
 
-  pub fragment-bad : {n t p : ℕ} → own-rules ≡ Breaks n t p → Refused n t (at + p) ≡ joined (Accepted f) at m head payload
+  pub chunk-bad : {n t p : ℕ} → own-rules ≡ Breaks n t p → Refused n t (at + p) ≡ joined (Accepted f) at m head payload
   unfolding joined
-  fragment-bad h = rw (← moved-then) (sym (judged-breaks (grown f m) (moved-breaks at h)))
+  chunk-bad h = rw (← moved-then) (sym (judged-breaks (grown f m) (moved-breaks at h)))
 
 -- what is known of the boxes so far: the fragments are few, and a `moof` that waits stands in the slice and ends at the place
 abbrev pub FitsAt : List ℕ → Course → ℕ → Type 0
@@ -94,9 +110,10 @@ few-judged Holds f b h = h
 few-judged (Breaks n t p) f b h = tt
 
 few-more : (j : Judged) (x : ℕ) (m : List ℕ) (head payload a b : ℕ) → a + 1 ≤ b → FewFragments j a → FewFragments (joined j x m head payload) b
-unfolding joined grown
+unfolding joined
 few-more (Refused n t p) x m head payload a b h k = tt
-few-more (Accepted f) x m head payload a b h k = few-judged _ (grown f m) b (omega arith)
+few-more (Accepted f) x m head payload a b h k =
+    few-judged _ (grown f m) b (omega (arith, grown-few f m))
 
 few-opened : (f : Ftyp) (x : ℕ) (m : List ℕ) (b : ℕ) → FewFragments (opened f x m) b
 unfolding opened openedFacts

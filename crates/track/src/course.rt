@@ -1,7 +1,9 @@
 // One pass over the top level: what a track has come to after some of its boxes.
 ghost use mathlib.Core.Path.{_≡_};
-ghost use Prim.Native.Nat.{_-_, _≤_};
+ghost use mathlib.Core.Bool.{_&&_};
+ghost use Prim.Native.Nat.{_+_, _-_, _≤_};
 ghost use lib.ListN.{length};
+ghost use Rattle.numbers.specs.Numbers.{when};
 ghost use Rattle.rules.specs.Limits.{byteLimit};
 ghost use Rattle.rules.specs.Order.{ordered, awaits, step6};
 ghost use Rattle.rules.specs.Course.{opened, orTick, joined, andBox, courseEnd};
@@ -12,7 +14,7 @@ use boxes::kinds::FTYP;
 use boxes::kinds::MDAT;
 use boxes::kinds::MOOF;
 use boxes::kinds::MOOV;
-use fragment::Fragment;
+use chunk::Chunk;
 use header::HeaderAnswer;
 use rules::Course;
 use rules::FirstTick;
@@ -88,6 +90,7 @@ fn opened(own: &[u8], f: Ftyp, b: Spot) -> Judged
                 mdhd: base + x.mdhd as u64,
                 hdlr: base + x.hdlr as u64,
                 fragments: 0,
+                plain: true,
                 start: FirstTick::Unset,
                 end: Previous::Unset,
             })
@@ -115,8 +118,23 @@ fn or_tick(first: FirstTick, start: u64) -> FirstTick
     }
 }
 
-// A `moof`, by its bytes, and its `mdat`, after rules that hold: the fragment's rules.
-fn and_fragment(moof: &[u8], f: TrackFacts, m: Spot, mdat: Spot) -> Judged
+// A count, with one more where it is so.
+fn and_one(n: u64, more: bool) -> u64
+    requires { ⌜ n ≤ byteLimit ⌝ }
+    ensures { λ r. ⌜ r ≡ n + when more 1 0 ⌝ }
+{
+    if more { n + 1 } else { n }
+}
+
+// Whether both are so.
+fn both(a: bool, b: bool) -> bool
+    ensures { λ r. ⌜ r ≡ (a && b) ⌝ }
+{
+    if a { b } else { false }
+}
+
+// A `moof`, by its bytes, and its `mdat`, after rules that hold: the chunk's rules, and one fragment more where it begins one.
+fn and_chunk(moof: &[u8], f: TrackFacts, m: Spot, mdat: Spot) -> Judged
     requires { ⌜ WholeBox (now moof) (m .head) × (length (now moof) ≤ byteLimit) × (m .at ≤ byteLimit) ⌝ }
     requires { ⌜ (mdat .head ≤ 16) × (mdat .head ≤ mdat .size) × (f .fragments ≤ byteLimit) ⌝ }
     ensures { λ r. ⌜ r ≡ joined (Accepted f) (m .at) (now (moof .entry)) (mdat .head) (mdat .size - mdat .head) ⌝ }
@@ -125,19 +143,20 @@ fn and_fragment(moof: &[u8], f: TrackFacts, m: Spot, mdat: Spot) -> Judged
     let first = f.start;
     let prev = f.end;
     let payload = (mdat.size - mdat.head) as u64;
-    match fragment::check_fragment(moof, m.head, mdat.head as u64, payload, header, prev) {
-        Fragment::Good(x) => {
+    match chunk::check_chunk(moof, m.head, mdat.head as u64, payload, header, prev) {
+        Chunk::Good(x) => {
             let start = or_tick(first, x.start);
             Judged::Accepted(TrackFacts {
                 header,
                 mdhd: f.mdhd,
                 hdlr: f.hdlr,
-                fragments: f.fragments + 1,
+                fragments: and_one(f.fragments, x.sync),
+                plain: both(f.plain, x.sync),
                 start,
                 end: Previous::End(x.end),
             })
         }
-        Fragment::Refused { number, place } => Judged::Refused {
+        Chunk::Refused { number, place } => Judged::Refused {
             number,
             track: 0,
             place: m.at as u64 + place,
@@ -145,14 +164,14 @@ fn and_fragment(moof: &[u8], f: TrackFacts, m: Spot, mdat: Spot) -> Judged
     }
 }
 
-// A `moof` and its `mdat`: the fragment's rules, unless one was broken before.
+// A `moof` and its `mdat`: the chunk's rules, unless one was broken before.
 fn joined(moof: &[u8], sofar: Judged, m: Spot, mdat: Spot) -> Judged
     requires { ⌜ WholeBox (now moof) (m .head) × (length (now moof) ≤ byteLimit) × (m .at ≤ byteLimit) ⌝ }
     requires { ⌜ (mdat .head ≤ 16) × (mdat .head ≤ mdat .size) × FewFragments sofar byteLimit ⌝ }
     ensures { λ r. ⌜ r ≡ joined sofar (m .at) (now (moof .entry)) (mdat .head) (mdat .size - mdat .head) ⌝ }
 {
     match sofar {
-        Judged::Accepted(f) => and_fragment(moof, f, m, mdat),
+        Judged::Accepted(f) => and_chunk(moof, f, m, mdat),
         Judged::Refused {
             number,
             track,

@@ -4,9 +4,8 @@ ghost use mathlib.Core.List.{_++_};
 ghost use Prim.Native.Nat.{_+_, _≤_};
 ghost use lib.ListN.{length, drop};
 ghost use lib.Seq.{sets};
-ghost use Rattle.rules.specs.Limits.{byteLimit};
 ghost use Rattle.rules.specs.Jobs.{Permits};
-ghost use Rattle.rules.specs.Track.{boundaries, endList, trackOutcome, endOfTrack, roomOf};
+ghost use Rattle.rules.specs.Track.{boundaries, endList, trackOutcome, roomOf};
 ghost use Rattle.rules.specs.Course.{judgement};
 ghost use Rattle.track.specs.Course.{Known};
 use cursor::Cursor;
@@ -82,16 +81,17 @@ fn put_last(end: Previous, t: &mut [u64], k: usize)
     }
 }
 
-// Writes the boundaries of a track, each fragment's start and the last end, at the front of the table.
-fn write_boundaries(s: &[u8], end: Previous, t: &mut [u64])
-    requires { ⌜ (length (now s) ≤ byteLimit) × (end ≡ endOfTrack (now s)) × (length (boundaries (now s)) ≤ length (now t)) ⌝ }
+// Writes the boundaries of an accepted track, each fragment's start and the last end, at the front of the table.
+fn write_boundaries(s: &[u8], f: TrackFacts, t: &mut [u64])
+    requires { ⌜ Known (now s) f × (length (boundaries (now s)) ≤ length (now t)) ⌝ }
     ensures { λ _. ⌜ now (t .exit) ≡ boundaries (now (s .entry)) ++ drop (length (boundaries (now (s .entry)))) (now (t .entry)) ⌝ }
 {
     let mut at: usize = 0;
     let mut k: usize = 0;
     loop {
-        let c = next_fragment(s, at);
+        let c = next_fragment(s, at, f.header, f.plain);
         let Cursor::At { next, start, .. } = c else {
+            let end = f.end;
             put_last(end, t, k);
             return;
         };
@@ -109,8 +109,7 @@ pub fn accept(s: &[u8], f: TrackFacts, t: &mut [u64]) -> Verdict
     if (t.len() as u64) <= f.fragments {
         return rules::refusal(23, 0, 0);
     }
-    let end = f.end;
-    write_boundaries(s, end, t);
+    write_boundaries(s, f, t);
     Verdict {
         number: 0,
         track: 0,

@@ -1,12 +1,13 @@
 //! The JSON objects; docs/JSON.md has every field.
 
+use crate::chunks;
 use crate::facts::{Set, Track};
 use crate::found::Fact;
 use crate::judge::{Answer, BoxAt, Judged};
 use crate::layout::letters;
 use crate::place::paths;
-use crate::reason::{Fragment, Reason};
-use crate::refusals::Part;
+use crate::reason::{Part, Reason};
+use crate::refusals;
 use crate::stream::Streamed;
 use flangemint::Verdict;
 use serde_json::{json, Map, Value};
@@ -15,12 +16,26 @@ type Object = Map<String, Value>;
 
 /// A judged set; `boundaries` may be left out where nobody asked for them.
 pub fn about(set: &Set, reason: Option<&Reason>, boundaries: bool) -> Object {
-    judged(&set.files, set.names.len(), &set.judged, reason, boundaries)
+    let mut object = judged(&set.files, set.names.len(), &set.judged, reason, boundaries);
+    // Tracks of one set share boundaries and not chunks.
+    if let (true, [_], Some(track)) = (boundaries, &set.names[..], set.track(0)) {
+        put_chunks(&mut object, &track);
+    }
+    object
 }
 
 /// A track by itself.
 pub fn alone(track: &Track, reason: Option<&Reason>) -> Object {
-    judged(&[track.name.to_owned()], 1, &track.alone, reason, true)
+    let mut object = judged(&[track.name.to_owned()], 1, &track.alone, reason, true);
+    put_chunks(&mut object, track);
+    object
+}
+
+/// The starts of an accepted track's chunks, fragment by fragment.
+fn put_chunks(object: &mut Object, track: &Track) {
+    if track.alone.verdict.is_accepted() {
+        object.insert("chunks".into(), json!(chunks::starts(track)));
+    }
 }
 
 fn judged(
@@ -91,12 +106,12 @@ fn refusal(reason: &Reason) -> Object {
     let mut put = |name: &str, value: Option<Value>| {
         value.map(|value| object.insert(name.to_owned(), value));
     };
-    let part = |part: Option<&Part>| part.map(|part| json!(part.text()));
+    let text = |part: Option<&refusals::Part>| part.map(|part| json!(part.text()));
     put("file", Some(json!(reason.file)));
     put("title", reason.section.map(|section| json!(section.title)));
-    put("means", part(reason.section.and_then(|section| section.means())));
-    put("cause", part(reason.section.and_then(|section| section.cause())));
-    put("remedy", part(reason.section.and_then(|section| section.remedy())));
+    put("means", text(reason.section.and_then(|section| section.means())));
+    put("cause", text(reason.section.and_then(|section| section.cause())));
+    put("remedy", text(reason.section.and_then(|section| section.remedy())));
     put(
         "box",
         reason.spot.named.as_ref().map(|(one, path)| {
@@ -105,17 +120,18 @@ fn refusal(reason: &Reason) -> Object {
     );
     put("end", reason.at_end.then_some(Value::Bool(true)));
     put("around", reason.spot.around.as_ref().map(|path| json!(path)));
-    put("fragment", reason.fragment.map(fragment));
+    put("chunk", reason.chunk.map(part));
+    put("fragment", reason.fragment.map(part));
     put("found", reason.contrast.as_ref().map(|contrast| fact(&contrast.found)));
     put("expected", reason.contrast.as_ref().map(|contrast| fact(&contrast.expected)));
     put("note", reason.hint.map(|hint| json!(hint)));
     object
 }
 
-fn fragment(fragment: Fragment) -> Value {
+fn part(part: Part) -> Value {
     let mut object = Object::new();
-    object.insert("number".into(), json!(fragment.number));
-    if let Some(start) = fragment.start {
+    object.insert("number".into(), json!(part.number));
+    if let Some(start) = part.start {
         object.insert("start".into(), json!(start.ticks));
         object.insert("timescale".into(), json!(start.timescale));
         object.insert("seconds".into(), json!(start.ticks as f64 / start.timescale as f64));
@@ -211,6 +227,7 @@ mod tests {
         let some = [
             "around",
             "boundaries",
+            "chunks",
             "depth",
             "end",
             "error",

@@ -16,7 +16,7 @@ const MOST_BOXES: usize = 65_536;
 const SMALLEST_BOX: usize = 8;
 
 /// `moof` 8, `mfhd` 16, `traf` 8, `tfhd` 16, `tfdt` 16, `trun` with its offset 20, `mdat` 8.
-const SMALLEST_FRAGMENT: usize = 92;
+const SMALLEST_CHUNK: usize = 92;
 
 /// Numbers a box in the index: offset, whole size, type, depth.
 const ROW: usize = 4;
@@ -51,7 +51,7 @@ pub fn set(bundle: &[u8]) -> Judged {
 }
 
 fn with_boundaries(check: fn(&[u8], &mut [u64]) -> Verdict, bytes: &[u8]) -> Judged {
-    let fragments = (bytes.len() / SMALLEST_FRAGMENT).min(MOST_BOXES);
+    let fragments = (bytes.len() / SMALLEST_CHUNK).min(MOST_BOXES);
     let mut boundaries = vec![0; fragments + 1];
     let verdict = check(bytes, &mut boundaries);
     boundaries.truncate(if verdict.is_accepted() { verdict.count as usize + 1 } else { 0 });

@@ -9,6 +9,7 @@ mod batch;
 mod boxes;
 mod bundle;
 mod check;
+mod chunks;
 mod explain;
 mod facts;
 mod failure;

@@ -1,9 +1,9 @@
-//! Where a byte stands: the box that begins there, its path, its fragment. Computed from the bytes
+//! Where a byte stands: the box that begins there, its path, its chunk. Computed from the bytes
 //! and the proved index to explain a verdict; it never changes the verdict.
 //!
 //! A path names a box by the types from the top level down, `moof[1]/traf/tfdt`. A type that
 //! stands more than once in its container, or at the top level, has an index, counted from 0 in
-//! byte order. Where the top-level order is good, `moof[k]` and `mdat[k]` are those of fragment k.
+//! byte order. Where the top-level order is good, `moof[k]` and `mdat[k]` are those of chunk k.
 
 use crate::judge::{BoxAt, Kind};
 use crate::layout::letters;
@@ -17,22 +17,18 @@ pub struct Spot {
     pub named: Option<(BoxAt, String)>,
     /// Where no box begins: the container around it; `None` at the top level.
     pub around: Option<String>,
-    /// The fragment that it belongs to, counted from 0, with the offset of its `moof`.
-    pub fragment: Option<(u64, u64)>,
+    /// The chunk that it belongs to, counted from 0, with the offset of its `moof`.
+    pub chunk: Option<(u64, u64)>,
 }
 
 pub fn spot(view: View, place: u64) -> Spot {
     let Some(nth) = view.at(place) else {
         let around = container_around(view, place);
         let path = around.map(|nth| paths(view.boxes).swap_remove(nth));
-        return Spot {
-            named: None,
-            around: path,
-            fragment: around.and_then(|nth| fragment(view, nth)),
-        };
+        return Spot { named: None, around: path, chunk: around.and_then(|nth| chunk(view, nth)) };
     };
     let path = paths(view.boxes).swap_remove(nth);
-    Spot { named: Some((view.boxes[nth], path)), around: None, fragment: fragment(view, nth) }
+    Spot { named: Some((view.boxes[nth], path)), around: None, chunk: chunk(view, nth) }
 }
 
 /// The innermost box around a place at which no box begins; such a box is a container.
@@ -41,8 +37,8 @@ pub fn container_around(view: View, place: u64) -> Option<usize> {
     view.boxes.iter().rposition(holds)
 }
 
-/// The fragment of a box: a `moof` or what it holds, or the `mdat` directly after it.
-fn fragment(view: View, nth: usize) -> Option<(u64, u64)> {
+/// The chunk of a box: a `moof` or what it holds, or the `mdat` directly after it.
+fn chunk(view: View, nth: usize) -> Option<(u64, u64)> {
     let top = view.top(nth);
     let before = || view.boxes[..top].iter().rev().find(|one| one.depth == 0);
     match &view.boxes[top].kind {
@@ -87,7 +83,7 @@ mod tests {
     use crate::judge;
     use maker::node::{self, Node};
 
-    /// Two fragments, the second with two runs, and a `styp` before each.
+    /// Two chunks, the second with two runs, and a `styp` before each.
     fn track() -> Vec<u8> {
         let leaf = |kind| Node::leaf(kind, vec![0; 4]);
         let moof = |runs| {
@@ -109,7 +105,7 @@ mod tests {
     }
 
     #[test]
-    fn one_fragment_has_no_index() {
+    fn one_chunk_has_no_index() {
         let bytes = track();
         let boxes = judge::index(&bytes[..bytes.len() / 2 + 14]).map(|boxes| paths(&boxes));
         assert_eq!(boxes, None, "cut inside a box");
@@ -118,15 +114,15 @@ mod tests {
     }
 
     #[test]
-    fn fragments() {
+    fn chunks() {
         let bytes = track();
         let boxes = judge::index(&bytes).unwrap();
         let view = View { bytes: &bytes, boxes: &boxes };
-        let number = |nth: usize| spot(view, boxes[nth].offset).fragment.map(|(number, _)| number);
+        let number = |nth: usize| spot(view, boxes[nth].offset).chunk.map(|(number, _)| number);
         let numbers: Vec<_> = (0..boxes.len()).map(number).collect();
         let expected = [vec![None; 4], vec![Some(0); 5], vec![None], vec![Some(1); 6]].concat();
         assert_eq!(numbers, expected);
-        let (_, moof) = spot(view, boxes[15].offset).fragment.unwrap();
+        let (_, moof) = spot(view, boxes[15].offset).chunk.unwrap();
         assert_eq!(moof, boxes[10].offset);
     }
 
@@ -137,8 +133,8 @@ mod tests {
         let view = View { bytes: &bytes, boxes: &boxes };
         let inside = spot(view, boxes[13].offset - 1);
         assert_eq!(inside.around.as_deref(), Some("moof[1]/traf"));
-        assert_eq!(inside.fragment.map(|(number, _)| number), Some(1));
+        assert_eq!(inside.chunk.map(|(number, _)| number), Some(1));
         let end = spot(view, bytes.len() as u64);
-        assert!(end.named.is_none() && end.around.is_none() && end.fragment.is_none());
+        assert!(end.named.is_none() && end.around.is_none() && end.chunk.is_none());
     }
 }

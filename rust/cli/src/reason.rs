@@ -1,11 +1,12 @@
-//! Why a set was refused, in facts: file, box, fragment, time, what stands there, what was
+//! Why a set was refused, in facts: file, box, chunk, time, what stands there, what was
 //! expected. All of it is computed from the bytes and the proved jobs after the verdict is there,
 //! and it never changes the verdict.
 
 use crate::bundle::MARK;
+use crate::chunks::chunks;
 use crate::facts::{Set, Track};
 use crate::found::{self, Contrast};
-use crate::judge;
+use crate::judge::{self, Judged};
 use crate::place::{spot, Spot};
 use crate::refusals::{section, Section};
 use crate::stream::Streamed;
@@ -17,27 +18,29 @@ pub struct Reason {
     pub spot: Spot,
     /// Where the place is the end of the track.
     pub at_end: bool,
-    pub fragment: Option<Fragment>,
+    pub chunk: Option<Part>,
+    /// That of the chunk; `None` where it can't be told which it is.
+    pub fragment: Option<Part>,
     pub contrast: Option<Contrast>,
     pub section: Option<&'static Section>,
     pub hint: Option<&'static str>,
 }
 
-/// A fragment, counted from 0.
+/// A chunk or a fragment, counted from 0.
 #[derive(Clone, Copy, Debug, PartialEq, Eq)]
-pub struct Fragment {
+pub struct Part {
     pub number: u64,
     pub start: Option<Start>,
 }
 
-/// Where a fragment starts: at the end of the one before, the first at its own `tfdt`.
+/// Where a chunk or a fragment starts: at the end of the one before, the first at its own `tfdt`.
 #[derive(Clone, Copy, Debug, PartialEq, Eq)]
 pub struct Start {
     pub ticks: u64,
     pub timescale: u64,
 }
 
-/// The numbers of a fragment whose `tfdt` is there and well formed: rules 14 and 15 hold.
+/// The numbers of a chunk whose `tfdt` is there and well formed: rules 14 and 15 hold.
 const AFTER_BODIES: u64 = 16;
 
 const BUNDLE_HINT: &str = "the file begins like a bundle: `flangemint check --bundle` judges those";
@@ -117,6 +120,7 @@ impl Reason {
             file: String::new(),
             spot: Spot::default(),
             at_end: false,
+            chunk: None,
             fragment: None,
             contrast: None,
             section: section(verdict.number),
@@ -131,22 +135,18 @@ impl Reason {
             return Reason { file: track.name.to_owned(), contrast, ..Reason::empty(verdict) };
         }
         let spot = spot(track.view(), verdict.place);
-        let before = spot.fragment.and_then(|(_, moof)| end_before(track, moof));
-        let fragment = spot.fragment.map(|(number, moof)| {
-            let first =
-                || (verdict.number >= AFTER_BODIES).then(|| own_start(track, moof)).flatten();
-            Fragment { number, start: before.or_else(first) }
+        let before = spot.chunk.and_then(|(_, moof)| front(track, moof));
+        let end = before.as_ref().and_then(|front| front.boundaries.last().copied());
+        let (chunk, fragment) = spot.chunk.map_or((None, None), |one| {
+            let (chunk, fragment) = parts(track, verdict, one, before.as_ref());
+            (Some(chunk), fragment)
         });
         Reason {
             file: track.name.to_owned(),
             at_end: verdict.place == track.bytes.len() as u64,
+            chunk,
             fragment,
-            contrast: found::in_track(
-                verdict.number,
-                track,
-                verdict.place,
-                before.map(|start| start.ticks),
-            ),
+            contrast: found::in_track(verdict.number, track, verdict.place, end),
             hint: track.bytes.starts_with(&MARK).then_some(BUNDLE_HINT),
             spot,
             ..Reason::empty(verdict)
@@ -154,14 +154,33 @@ impl Reason {
     }
 }
 
-/// Where the fragments before a `moof` end, by the track job over the bytes before it.
-fn end_before(track: &Track, moof: u64) -> Option<Start> {
+/// What the track job says of the chunks before a `moof`; `None` where it refuses them.
+fn front(track: &Track, moof: u64) -> Option<Judged> {
     let before = judge::track(track.bytes.get(..usize::try_from(moof).ok()?)?);
-    let ticks = *before.boundaries.last()?;
-    Some(Start { ticks, timescale: before.verdict.timescale })
+    before.verdict.is_accepted().then_some(before)
 }
 
-/// Where the `tfdt` of a fragment says that it starts.
+/// The chunk with this number and `moof`, and its fragment. `before` is the front that it follows.
+fn parts(
+    track: &Track,
+    verdict: &Verdict,
+    (number, moof): (u64, u64),
+    before: Option<&Judged>,
+) -> (Part, Option<Part>) {
+    let fragment = chunks(track).get(number as usize).and_then(|chunk| chunk.fragment);
+    let first = || (verdict.number >= AFTER_BODIES).then(|| own_start(track, moof)).flatten();
+    // The front's boundaries are the starts of its fragments, and where the chunk starts.
+    let start = |nth: usize| {
+        let Some(before) = before else { return first().filter(|_| number == 0) };
+        let ticks = *before.boundaries.get(nth)?;
+        Some(Start { ticks, timescale: before.verdict.timescale })
+    };
+    let last = before.map_or(0, |before| before.boundaries.len() - 1);
+    let chunk = Part { number, start: start(last) };
+    (chunk, fragment.map(|number| Part { number, start: start(number as usize) }))
+}
+
+/// Where the `tfdt` of a chunk says that it starts.
 fn own_start(track: &Track, moof: u64) -> Option<Start> {
     let view = track.view();
     let traf = view.child(view.at(moof), b"traf")?;
@@ -228,8 +247,21 @@ mod tests {
             _ => (),
         }
         if matches!(number, 14..=22 | 28) {
-            let fragment = reason.fragment.unwrap_or_else(|| panic!("{name}: no fragment"));
-            assert!(number < AFTER_BODIES || fragment.start.is_some(), "{name}: no time");
+            let chunk = reason.chunk.unwrap_or_else(|| panic!("{name}: no chunk"));
+            assert!(number < AFTER_BODIES || chunk.start.is_some(), "{name}: no time");
+            // Boxes that are misshapen, or no sample, don't tell to which fragment it belongs.
+            match reason.fragment {
+                None => assert!(number <= 18 && chunk.number > 0, "{name}: {number}"),
+                Some(fragment) => {
+                    assert!(fragment.number <= chunk.number, "{name}");
+                    let ticks = |part: Part| part.start.map(|start| start.ticks);
+                    assert!(
+                        ticks(fragment) <= ticks(chunk),
+                        "{name}: {number} {fragment:?} {chunk:?}"
+                    );
+                    assert!(number != 28 || ticks(fragment) == ticks(chunk), "{name}");
+                }
+            }
         }
         if let Some((_, path)) = named {
             let expected = match number {

@@ -1,10 +1,10 @@
 //! A verdict in words.
 
 use crate::facts::Set;
-use crate::judge::{Answer, Judged};
+use crate::judge::{self, Answer, BoxAt, Judged};
 use crate::place::Spot;
-use crate::reason::Reason;
-use crate::refusals::{Part, Section};
+use crate::reason::{Part, Reason, Start};
+use crate::refusals::{self, Section};
 use crate::stream::Streamed;
 use crate::time::seconds;
 use flangemint::Verdict;
@@ -59,7 +59,21 @@ pub fn accepted(set: &Set) -> Vec<Row> {
     if let (Some(first), Some(last)) = (boundaries.first(), boundaries.last()) {
         rows.push(("time", format!("{} to {}", time(*first), time(*last))));
     }
+    rows.extend(chunk_counts(set).map(|counts| ("chunks", counts)));
     rows
+}
+
+/// How many chunks each track has, in the order of the files; `None` where each is a fragment.
+fn chunk_counts(set: &Set) -> Option<String> {
+    let tops = |boxes: Vec<BoxAt>| boxes.into_iter().filter(|one| one.depth == 0);
+    let count = |bytes: &&[u8]| {
+        let boxes = judge::index(bytes).unwrap_or_default();
+        tops(boxes).filter(|one| one.kind == *b"moof").count() as u64
+    };
+    let counts: Vec<u64> = set.bundle.tracks().iter().map(count).collect();
+    let several = counts.iter().any(|count| *count != set.judged.verdict.count);
+    let counts: Vec<String> = counts.iter().map(u64::to_string).collect();
+    several.then(|| counts.join(", "))
 }
 
 fn acceptance(set: &Set, all: bool) -> String {
@@ -123,14 +137,21 @@ pub fn refused(verdict: &Verdict, reason: &Reason) -> Vec<Row> {
         )),
         _ => rows.push(("box", place(&reason.spot, verdict.place, reason.at_end))),
     }
-    if let Some(fragment) = reason.fragment {
-        let start =
-            fragment.start.map(|start| format!(", at {}", seconds(start.ticks, start.timescale)));
-        let start = start.unwrap_or_default();
-        rows.push(("fragment", format!("{} (the first is 0){start}", fragment.number)));
-    }
+    rows.extend(reason.chunk.map(|chunk| ("chunk", of_chunk(chunk, reason.fragment))));
     rows.extend(explained(reason));
     rows
+}
+
+/// `5 (the first is 0), at 2.520000 s, in fragment 1`, as far as it is known.
+fn of_chunk(chunk: Part, fragment: Option<Part>) -> String {
+    let at = |start: Start| format!(", at {}", seconds(start.ticks, start.timescale));
+    let start = chunk.start.map_or(String::new(), at);
+    let of = fragment.map_or(String::new(), |fragment| {
+        let first = chunk.number == 0 || (chunk.start.is_some() && fragment.start == chunk.start);
+        let what = if first { "the first of" } else { "in" };
+        format!(", {what} fragment {}", fragment.number)
+    });
+    format!("{} (the first is 0){start}{of}", chunk.number)
 }
 
 /// Both sides of the contrast and the note, as far as they are there.
@@ -168,7 +189,7 @@ fn lines(rows: &[Row]) -> String {
 }
 
 /// A section's heading and these parts of it, line by line as they are written.
-fn section(section: &Section, parts: &[Option<&Part>]) -> String {
+fn section(section: &Section, parts: &[Option<&refusals::Part>]) -> String {
     let mut text = format!("{}. {}\n", section.number, section.title);
     for part in parts.iter().flatten() {
         text += &format!("  {}:", part.label);

@@ -65,9 +65,9 @@ mod tests {
 
         let refused = Verdict { number: 19, track: 1, place: 700, ..Verdict::default() };
         let words =
-            "refused 19 track 1 at 700: The fragment does not start where the one before it ended.";
+            "refused 19 track 1 at 700: The chunk does not start where the one before it ended.";
         assert_eq!(refused.to_string(), words);
-        assert_eq!(refused.refusal(), Some(Refusal::FragmentStart));
+        assert_eq!(refused.refusal(), Some(Refusal::ChunkStart));
 
         let unknown = Verdict { number: 30, ..Verdict::default() };
         assert_eq!(unknown.to_string(), "refused 30 track 0 at 0: No rule has the number 30.");

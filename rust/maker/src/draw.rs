@@ -2,16 +2,19 @@
 
 use crate::node::Kind;
 use crate::rng::Rng;
-use crate::track::{Defaults, Fragment, Run, Sample, Track, NON_SYNC, SAMPLE_FIELDS};
+use crate::track::{Chunk, Defaults, Run, Sample, Track, NON_SYNC, SAMPLE_FIELDS};
 
 pub const LAST_TICK: u64 = (1 << 63) - 1;
 const MAX_SAMPLES: u64 = 65_536;
+/// The most chunks that are drawn for a fragment, and for a track: more would need too many boxes.
+const MAX_CHUNKS: u64 = 40;
+const MAX_CHUNKS_IN_ALL: u64 = 80;
 
 /// Handlers with their media headers.
 pub const PAIRS: [(Kind, Kind); 3] =
     [(*b"vide", *b"vmhd"), (*b"soun", *b"smhd"), (*b"subt", *b"sthd")];
 
-/// What the tracks of a set share.
+/// What the tracks of a set share. How each of them cuts its fragments into chunks is its own.
 #[derive(Clone, Debug)]
 pub struct Plan {
     pub handler: Kind,
@@ -34,10 +37,6 @@ impl Plan {
             boundaries.push(tick);
         }
         Plan { handler, media_header, timescale, boundaries }
-    }
-
-    pub fn fragments(&self) -> usize {
-        self.boundaries.len() - 1
     }
 }
 
@@ -68,8 +67,6 @@ fn draw_start(rng: &mut Rng, duration: u64) -> u64 {
 pub fn track(plan: &Plan, rng: &mut Rng) -> Track {
     let trex = draw_defaults(rng);
     let any_id = 1 + rng.u32() / 2;
-    let spans = plan.boundaries.windows(2);
-    let fragments = spans.map(|span| fragment(span[0], span[1] - span[0], &trex, rng)).collect();
     Track {
         track_id: rng.pick(&[1, 2, u32::MAX, any_id]),
         timescale: plan.timescale,
@@ -82,7 +79,7 @@ pub fn track(plan: &Plan, rng: &mut Rng) -> Track {
         edts: rng.chance(30),
         elng: rng.chance(30),
         trex,
-        fragments,
+        chunks: draw_chunks(plan, &trex, rng),
     }
 }
 
@@ -112,12 +109,45 @@ fn draw_flags(rng: &mut Rng) -> u32 {
     }
 }
 
-fn fragment(start: u64, duration: u64, trex: &Defaults, rng: &mut Rng) -> Fragment {
+/// The chunks of all fragments: in each the first is sync, and no other.
+fn draw_chunks(plan: &Plan, trex: &Defaults, rng: &mut Rng) -> Vec<Chunk> {
+    let most = rng.pick(&[1, 1, 1, 2, 3, 6, MAX_CHUNKS]);
+    let mut chunks = Vec::new();
+    for span in plan.boundaries.windows(2) {
+        let room = MAX_CHUNKS_IN_ALL.saturating_sub(chunks.len() as u64).max(1);
+        // Each lasts a tick at least.
+        let most = most.min(room).min(span[1] - span[0]);
+        let any = rng.within(1..=most);
+        let count = rng.pick(&[1, most, any, any]);
+        let mut start = span[0];
+        for left in (1..=count).rev() {
+            let duration = draw_part(span[1] - start, left, rng);
+            let mut chunk = draw_chunk(start, duration, trex, rng);
+            make_sync(&mut chunk, trex, left == count, rng);
+            chunks.push(chunk);
+            start += duration;
+        }
+    }
+    chunks
+}
+
+/// The first of so many parts of a duration, each a tick at least.
+fn draw_part(duration: u64, parts: u64, rng: &mut Rng) -> u64 {
+    if parts == 1 {
+        return duration;
+    }
+    let equal = duration / parts;
+    let near = rng.within(1..=(2 * equal).min(duration - (parts - 1)));
+    rng.pick(&[equal, near, near, 1])
+}
+
+/// A chunk whose first sample is as it comes.
+fn draw_chunk(start: u64, duration: u64, trex: &Defaults, rng: &mut Rng) -> Chunk {
     let optional = [0, 0x2, 0x8, 0x10, 0x20].into_iter();
     let chosen: u32 = optional.filter(|_| rng.chance(40)).sum();
     // Flags that no rule names are ignored.
     let ignored = if rng.chance(20) { rng.u32() & 0xFC_FFC4 } else { 0 };
-    let mut fragment = Fragment {
+    let mut chunk = Chunk {
         start,
         wide_tfdt: start >> 32 != 0 || rng.chance(50),
         tfhd_flags: 0x02_0000 | chosen | ignored,
@@ -127,22 +157,28 @@ fn fragment(start: u64, duration: u64, trex: &Defaults, rng: &mut Rng) -> Fragme
     let is_full = rng.chance(3);
     if is_full {
         // Samples that cost nothing, to have as many as there may be.
-        fragment.tfhd_flags |= 0x18;
-        (fragment.tfhd.duration, fragment.tfhd.size) = (0, 0);
+        chunk.tfhd_flags |= 0x18;
+        (chunk.tfhd.duration, chunk.tfhd.size) = (0, 0);
     }
-    let mut durations = Durations { left: duration, samples: 0, defaults: fragment.defaults(trex) };
-    fragment.runs = durations.runs(rng);
+    let mut durations = Durations { left: duration, samples: 0, defaults: chunk.defaults(trex) };
+    chunk.runs = durations.runs(rng);
     if is_full {
         let missing = MAX_SAMPLES - durations.samples;
-        fragment.runs.push(durations.run(missing, vec![], false, rng));
+        chunk.runs.push(durations.run(missing, vec![], false, rng));
     }
-    rng.shuffle(&mut fragment.runs);
-    fragment.runs[0].flags |= 0x1;
-    make_sync(&mut fragment, trex, rng);
-    fragment
+    rng.shuffle(&mut chunk.runs);
+    if rng.chance(10) {
+        // What an empty run says of a first sample is of no matter.
+        let empty = (0..rng.within(1..=3))
+            .map(|_| durations.run(0, vec![], false, rng))
+            .collect::<Vec<_>>();
+        chunk.runs.splice(0..0, empty);
+    }
+    chunk.runs[0].flags |= 0x1;
+    chunk
 }
 
-/// Hands out a fragment's duration to runs.
+/// Hands out a chunk's duration to runs.
 struct Durations {
     left: u64,
     samples: u64,
@@ -248,21 +284,108 @@ fn draw_sample(small: bool, rng: &mut Rng) -> Sample {
     }
 }
 
-/// Makes the fragment's first sample sync at the source that decides it.
-fn make_sync(fragment: &mut Fragment, trex: &Defaults, rng: &mut Rng) {
-    let defaults = fragment.defaults(trex);
-    let run = first_with_sample(fragment);
-    if run.flags & 0x404 == 0 && defaults.flags & NON_SYNC != 0 {
-        let own = !run.samples.is_empty() && rng.chance(50);
-        run.flags |= if own { 0x400 } else { 0x4 };
-    }
-    run.first_sample_flags &= !NON_SYNC;
+/// Makes the chunk's first sample sync or non-sync: at the source that decides it, or at one that
+/// stands before a default.
+pub fn make_sync(chunk: &mut Chunk, trex: &Defaults, is_sync: bool, rng: &mut Rng) {
+    let put = |flags: &mut u32| match is_sync {
+        true => *flags &= !NON_SYNC,
+        false => *flags |= NON_SYNC,
+    };
+    let run = first_with_sample(chunk);
+    put(&mut run.first_sample_flags);
     if let Some(sample) = run.samples.first_mut() {
-        sample.flags &= !NON_SYNC;
+        put(&mut sample.flags);
+    }
+    if run.flags & 0x404 != 0 {
+        return;
+    }
+    // A default decides, and that of `trex` is for all chunks.
+    let has_fields = !run.samples.is_empty();
+    let is_right = (chunk.defaults(trex).flags & NON_SYNC == 0) == is_sync;
+    match rng.below(3) {
+        _ if is_right => (),
+        0 => {
+            chunk.tfhd_flags |= 0x20;
+            put(&mut chunk.tfhd.flags);
+        }
+        1 if has_fields => first_with_sample(chunk).flags |= 0x400,
+        _ => first_with_sample(chunk).flags |= 0x4,
     }
 }
 
-/// The run of the fragment's first sample.
-pub fn first_with_sample(fragment: &mut Fragment) -> &mut Run {
-    fragment.runs.iter_mut().find(|run| run.count > 0).expect("a fragment has a sample")
+/// The run of the chunk's first sample.
+pub fn first_with_sample(chunk: &mut Chunk) -> &mut Run {
+    chunk.runs.iter_mut().find(|run| run.count > 0).expect("a chunk has a sample")
+}
+
+#[cfg(test)]
+mod tests {
+    use super::*;
+
+    fn tracks() -> impl Iterator<Item = (Plan, Track)> {
+        let mut rng = Rng::new(8);
+        std::iter::repeat_with(move || {
+            let plan = Plan::draw(&mut rng);
+            let track = track(&plan, &mut rng);
+            (plan, track)
+        })
+        .take(3000)
+    }
+
+    /// Which source decides a chunk's first sample, and how many runs before it are empty.
+    fn source(chunk: &Chunk) -> (usize, usize) {
+        let empty = chunk.runs.iter().take_while(|run| run.count == 0).count();
+        let source = match (chunk.runs[empty].flags & 0x404, chunk.tfhd_flags & 0x20) {
+            (0, 0) => 0,
+            (0, _) => 1,
+            (0x400, _) => 2,
+            _ => 3,
+        };
+        (source, empty)
+    }
+
+    /// However the fragments are cut into chunks, the boundaries are the plan's.
+    #[test]
+    fn boundaries_are_as_planned() {
+        for (plan, track) in tracks() {
+            assert_eq!(track.boundaries(), plan.boundaries);
+            assert!((1..track.chunks.len()).all(|n| track.chunks[n].start == track.end_before(n)));
+        }
+    }
+
+    /// Every number of chunks from 1 to the most, and in one fragment more samples than a chunk may have.
+    #[test]
+    fn fragments_of_many_chunks() {
+        let mut lengths = [0; MAX_CHUNKS as usize + 1];
+        let mut most_samples = 0;
+        for (_, track) in tracks() {
+            let mut firsts = track.fragments();
+            firsts.push(track.chunks.len());
+            for fragment in firsts.windows(2).map(|ends| &track.chunks[ends[0]..ends[1]]) {
+                lengths[fragment.len()] += 1;
+                let runs = fragment.iter().flat_map(|chunk| &chunk.runs);
+                most_samples = most_samples.max(runs.map(|run| u64::from(run.count)).sum());
+            }
+        }
+        assert!(lengths[1..].iter().all(|times| *times > 0), "{lengths:?}");
+        assert!(most_samples > MAX_SAMPLES);
+    }
+
+    /// Each source makes first chunks, those that begin later fragments and those that do not, with and
+    /// without empty runs before.
+    #[test]
+    fn sources_of_flags() {
+        let mut reached = [[[0; 2]; 4]; 3];
+        for (_, track) in tracks() {
+            for (nth, chunk) in track.chunks.iter().enumerate() {
+                let place = if nth == 0 { 0 } else { 1 + usize::from(!chunk.is_sync(&track.trex)) };
+                let (source, empty) = source(chunk);
+                reached[place][source][empty.min(1)] += 1;
+            }
+        }
+        assert!(
+            reached.as_flattened().as_flattened().iter().all(|times| *times >= 20),
+            "{reached:?}"
+        );
+    }
 }

@@ -63,16 +63,16 @@ pub fn steps(path: &str) -> Vec<Step> {
     path.split('/').map(|name| (kind(name), 0)).collect()
 }
 
-/// The steps to a box of the n-th fragment.
-pub fn steps_in_fragment(path: &str, nth: usize) -> Vec<Step> {
+/// The steps to a box of the n-th chunk.
+pub fn steps_in_chunk(path: &str, nth: usize) -> Vec<Step> {
     let mut steps = steps(path);
     steps[0].1 = nth;
     steps
 }
 
-/// The n-th run of a fragment.
-pub fn trun(fragment: usize, run: usize) -> Vec<Step> {
-    let mut steps = steps_in_fragment("moof/traf/trun", fragment);
+/// The n-th run of a chunk.
+pub fn trun(chunk: usize, run: usize) -> Vec<Step> {
+    let mut steps = steps_in_chunk("moof/traf/trun", chunk);
     steps[2].1 = run;
     steps
 }

@@ -4,14 +4,15 @@ use crate::blind;
 use crate::bundle::{bundle, record};
 use crate::cases::{Answer, Case, Job};
 use crate::damage::framing::{crowd, MAX_BOXES};
-use crate::damage::set::{bad_bundle, differing};
+use crate::damage::set::{bad_bundle, differing, regrouped};
 use crate::damage::{aimed, Damaged, TRACK_NUMBERS};
-use crate::decorate::good;
-use crate::draw::Plan;
+use crate::decorate::{dressed, good};
+use crate::draw::{self, Plan};
 use crate::layout::steps;
 use crate::node::{self, Node};
 use crate::rng::Rng;
 use crate::soup::soup;
+use crate::track::Track;
 
 /// Draws a case of this job.
 pub fn draw(job: Job, rng: &mut Rng) -> Case {
@@ -133,13 +134,14 @@ fn one_other_track(rng: &mut Rng) -> Drawn {
     let number = rng.within(25..=28);
     let before = tracks_before(1, rng);
     let mut tracks = good_tracks(before, &plan, rng);
-    let (other, boundary) = differing(number, &plan, rng);
-    let boxes = good(&other, rng);
+    let (other, boundary) = other_track(number, &plan, &mut tracks[0], rng);
+    let boxes = dressed(&other, rng);
+    let firsts = other.fragments();
     let place = match number {
         25 => node::place(&boxes, &steps("moov/trak/mdia/hdlr")),
         26 => node::place(&boxes, &steps("moov/trak/mdia/mdhd")),
         27 => node::total_size(&boxes) as u64,
-        _ => node::place(&boxes, &[(*b"moof", boundary.min(other.fragments() - 1))]),
+        _ => node::place(&boxes, &[(*b"moof", firsts[boundary.min(firsts.len() - 1)])]),
     };
     tracks.push(node::bytes(&boxes));
     let mut bytes = bundle(&tracks);
@@ -148,6 +150,20 @@ fn one_other_track(rng: &mut Rng) -> Drawn {
         bytes.extend(record(&node::bytes(&good(&another, rng))));
     }
     (bytes, Some(Answer::refused(number, place).of_track(before)))
+}
+
+/// A good track that is first refused beside this plan with number 25 to 28, and rule 28's
+/// boundary. Sometimes track 0 gets the same chunks, grouped as the plan says.
+fn other_track(number: u64, plan: &Plan, track_0: &mut Vec<u8>, rng: &mut Rng) -> (Track, usize) {
+    if number >= 27 && rng.chance(40) {
+        let track = draw::track(plan, rng);
+        if let Some(regrouped) = regrouped(number, &track, rng) {
+            *track_0 = node::bytes(&dressed(&track, rng));
+            return regrouped;
+        }
+    }
+    let (other, boundary) = differing(number, plan, rng);
+    (draw::track(&other, rng), boundary)
 }
 
 #[cfg(test)]
@@ -167,13 +183,13 @@ mod tests {
 
     /// Drawn numbers of samples reach the most that there may be.
     #[test]
-    fn fragments_can_be_full() {
+    fn chunks_can_be_full() {
         let mut rng = Rng::new(1);
         let mut most = 0;
         for _ in 0..100 {
             let plan = Plan::draw(&mut rng);
-            let fragments = crate::draw::track(&plan, &mut rng).fragments;
-            let counts = fragments.iter().map(|f| f.runs.iter().map(|run| run.count).sum::<u32>());
+            let chunks = draw::track(&plan, &mut rng).chunks;
+            let counts = chunks.iter().map(|c| c.runs.iter().map(|run| run.count).sum::<u32>());
             most = most.max(counts.max().unwrap());
         }
         assert_eq!(most, 65_536);

@@ -78,7 +78,7 @@ fn at_limit(rng: &mut Rng) -> (Vec<Node>, Answer) {
     let track = draw::track(&plan, rng);
     let mut boxes = dressed(&track, rng);
     let kind = rng.pick(&BOUNDED);
-    let nth = if kind == *b"moof" { rng.index(plan.fragments()) } else { 0 };
+    let nth = if kind == *b"moof" { rng.index(track.chunks.len()) } else { 0 };
     let large = node::at(&mut boxes, &[(kind, nth)]);
     large.header = some_header(rng);
     grow(large, size_at_limit(rng), rng.chance(50));

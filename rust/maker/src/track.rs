@@ -25,11 +25,12 @@ pub struct Track {
     pub edts: bool,
     pub elng: bool,
     pub trex: Defaults,
-    pub fragments: Vec<Fragment>,
+    pub chunks: Vec<Chunk>,
 }
 
+/// A `moof` and its `mdat`.
 #[derive(Clone, Debug)]
-pub struct Fragment {
+pub struct Chunk {
     pub start: u64,
     /// Version 1, with 64 bits.
     pub wide_tfdt: bool,
@@ -95,9 +96,9 @@ fn body(parts: &[&[u8]]) -> Vec<u8> {
 }
 
 impl Track {
-    /// Track T of document 01 with as many fragments as asked; it has two.
-    pub fn example(fragments: u64) -> Track {
-        let fragment = |k: u64| Fragment {
+    /// Track T of document 01 with as many chunks as asked, each a fragment; it has two.
+    pub fn example(chunks: u64) -> Track {
+        let chunk = |k: u64| Chunk {
             start: k * 180_000,
             wide_tfdt: false,
             tfhd_flags: 0x02_0000,
@@ -125,20 +126,37 @@ impl Track {
             edts: false,
             elng: false,
             trex: Defaults::default(),
-            fragments: (0..fragments).map(fragment).collect(),
+            chunks: (0..chunks).map(chunk).collect(),
         }
+    }
+
+    /// Track U: T's header, and three chunks like T's in two fragments, each with first-sample
+    /// flags. The second is non-sync by them and belongs to the first fragment.
+    pub fn example_u() -> Track {
+        let mut track = Track::example(3);
+        for (nth, chunk) in track.chunks.iter_mut().enumerate() {
+            let run = &mut chunk.runs[0];
+            run.flags = 0x305;
+            run.first_sample_flags = if nth == 1 { 0x0101_0000 } else { 0x0200_0000 };
+        }
+        track
+    }
+
+    /// The first chunk of each fragment: that of the track, and each later one that is sync.
+    pub fn fragments(&self) -> Vec<usize> {
+        let begins = |nth: &usize| *nth == 0 || self.chunks[*nth].is_sync(&self.trex);
+        (0..self.chunks.len()).filter(begins).collect()
     }
 
     /// The boundaries, as many as fragments and one more.
     pub fn boundaries(&self) -> Vec<u64> {
-        let last = self.fragments.last().expect("a track has a fragment");
-        let starts = self.fragments.iter().map(|fragment| fragment.start);
-        starts.chain([last.start + last.duration(&self.trex)]).collect()
+        let starts = self.fragments().into_iter().map(|first| self.chunks[first].start);
+        starts.chain([self.end_before(self.chunks.len())]).collect()
     }
 
-    /// Where the n-th fragment must start, n being at least 1.
+    /// Where the n-th chunk must start, n being at least 1.
     pub fn end_before(&self, nth: usize) -> u64 {
-        let before = &self.fragments[nth - 1];
+        let before = &self.chunks[nth - 1];
         before.start.wrapping_add(before.duration(&self.trex))
     }
 
@@ -147,9 +165,9 @@ impl Track {
         let brands = self.brands.concat();
         let ftyp = Node::leaf(b"ftyp", body(&[&fill.bytes(8), &brands]));
         let mut boxes = vec![ftyp, self.moov(fill)];
-        for fragment in &self.fragments {
-            boxes.push(fragment.moof(self.track_id, fill));
-            let size = fragment.size(&self.trex);
+        for chunk in &self.chunks {
+            boxes.push(chunk.moof(self.track_id, fill));
+            let size = chunk.size(&self.trex);
             let payload = if size > MAX_PAYLOAD { 64 } else { size as usize };
             boxes.push(Node::zeros(b"mdat", payload));
         }
@@ -163,15 +181,15 @@ impl Track {
         let mdat_headers: Vec<usize> =
             boxes.iter().filter(|node| is_mdat(node)).map(Node::header_len).collect();
         let moofs = boxes.iter_mut().filter(|node| node.kind == *b"moof");
-        for ((moof, fragment), mdat_header) in moofs.zip(&self.fragments).zip(mdat_headers) {
+        for ((moof, chunk), mdat_header) in moofs.zip(&self.chunks).zip(mdat_headers) {
             let mut next = (moof.size() + mdat_header) as i64;
-            for (nth, run) in fragment.runs.iter().enumerate() {
+            for (nth, run) in chunk.runs.iter().enumerate() {
                 if run.flags & 0x1 != 0 {
                     let trun = node::at(moof.boxes(), &[(*b"traf", 0), (*b"trun", nth)]);
                     let offset = next as i32;
                     trun.put_u32(8, offset.wrapping_add(run.offset_error).cast_unsigned());
                 }
-                next += run.size(&fragment.defaults(&self.trex)) as i64;
+                next += run.size(&chunk.defaults(&self.trex)) as i64;
             }
         }
     }
@@ -236,7 +254,7 @@ fn version_and_flags(version: u8, flags: u32) -> [u8; 4] {
     (u32::from(version) << 24 | flags).to_be_bytes()
 }
 
-impl Fragment {
+impl Chunk {
     /// The values of a sample whose run carries none.
     pub fn defaults(&self, trex: &Defaults) -> Defaults {
         let choose = |flag: u32, own: u32, other: u32| match self.tfhd_flags & flag {
@@ -258,6 +276,14 @@ impl Fragment {
     pub fn size(&self, trex: &Defaults) -> u64 {
         let defaults = self.defaults(trex);
         self.runs.iter().map(|run| run.size(&defaults)).sum()
+    }
+
+    /// Whether the first sample is sync: that of the first run that has one. A chunk without
+    /// samples is taken for sync.
+    pub fn is_sync(&self, trex: &Defaults) -> bool {
+        let defaults = self.defaults(trex);
+        let first = self.runs.iter().find(|run| run.count > 0);
+        first.is_none_or(|run| run.first_flags(&defaults) & NON_SYNC == 0)
     }
 
     /// Whether the offsets keep rule 22.
@@ -303,6 +329,15 @@ impl Run {
 
     pub fn size(&self, defaults: &Defaults) -> u64 {
         self.total(0x200, defaults.size, |sample| sample.size)
+    }
+
+    /// The flags of the first sample, which is there.
+    fn first_flags(&self, defaults: &Defaults) -> u32 {
+        match (self.flags & 0x4, self.flags & 0x400) {
+            (0, 0) => defaults.flags,
+            (0, _) => self.samples[0].flags,
+            _ => self.first_sample_flags,
+        }
     }
 
     fn total(&self, flag: u32, default: u32, field: impl Fn(&Sample) -> u32) -> u64 {

@@ -7,7 +7,7 @@ use crate::moov::{HeaderBoxes, Moov};
 use crate::run::SampleDefaults;
 use crate::verdict::Refusal;
 
-/// What the fragments and the set need from a good header.
+/// What the chunks and the set need from a good header.
 pub struct Header {
     pub track_id: u32,
     pub timescale: u32,

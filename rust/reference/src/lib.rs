@@ -1,15 +1,16 @@
 //! Document 01's three jobs over lent bytes, in ordinary Rust: list the boxes
 //! of a slice, check one track, check a switching set; and request 1's form of
-//! the second, which takes a track in pieces.
+//! the second, which takes a track in pieces. By request 2 a `moof` with its
+//! `mdat` is a chunk, and a fragment is one or more of these.
 //!
 //! Nothing here panics, whatever the bytes are, and only `Pieces` allocates. A lent
 //! table is written on acceptance alone, and then only as far as the job fills it.
 
 #![forbid(unsafe_code)]
 
+mod chunk;
 mod counts;
 mod fields;
-mod fragment;
 mod framing;
 mod header;
 mod index;
@@ -35,7 +36,7 @@ pub use verdict::Verdict;
 pub const MAX_BYTES: usize = 1 << 30;
 /// Rule 5 (house): the most boxes in one slice.
 pub const MAX_BOXES: usize = 4096;
-/// Rule 18 (house): the most samples in one fragment.
+/// Rule 18 (house): the most samples in one chunk.
 pub const MAX_SAMPLES: u64 = 65_536;
 /// Rule 29: the most bytes that a `ftyp`, `moov` or `moof` of a track in pieces may declare.
 pub const MAX_KEPT: u64 = 32_768;

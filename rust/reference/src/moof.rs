@@ -61,7 +61,7 @@ impl<'a> Moof<'a> {
     }
 }
 
-/// The runs of a fragment.
+/// The runs of a chunk.
 #[derive(Default)]
 pub struct Runs<'a> {
     pub first_at: Option<usize>,

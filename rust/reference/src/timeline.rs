@@ -4,7 +4,7 @@ use crate::verdict::Refusal;
 use crate::MAX_BOXES;
 
 /// No more fragments than this fit into rule 5's boxes: rules 7 and 14 ask for
-/// 20 boxes of `ftyp` and header, and for 7 in each fragment.
+/// 20 boxes of `ftyp` and header, and for 7 in each chunk.
 const MAX_FRAGMENTS: usize = (MAX_BOXES - 20) / 7;
 
 /// Boundaries that there is room for at once; most tracks have few.

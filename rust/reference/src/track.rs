@@ -1,4 +1,4 @@
-//! One track, header and fragments: rules 1 to 22, and the room for its boundaries.
+//! One track, header and chunks: rules 1 to 22, and the room for its boundaries.
 
 use crate::framing::{Allowance, Boxes, Framed};
 use crate::header::Header;
@@ -8,7 +8,7 @@ use crate::moov::Moov;
 use crate::order::Order;
 use crate::timeline::Timeline;
 use crate::verdict::{Refusal, Verdict};
-use crate::{fragment, header, MAX_BYTES};
+use crate::{chunk, header, MAX_BYTES};
 
 /// Checks one track; on acceptance the table gets its F + 1 boundaries.
 pub fn track(data: &[u8], table: &mut [u64]) -> Verdict {
@@ -27,7 +27,8 @@ pub struct Checked {
 }
 
 /// Rules 1 to 22. `boundary` sees each of the F + 1 boundaries in order, with
-/// the `moof` that rule 28 would name for it; it may see some before a refusal.
+/// the `moof` that rule 28 would name for it, the first of its fragment; it may
+/// see some before a refusal.
 pub fn check(data: &[u8], boundary: impl FnMut(u64, usize)) -> Result<Checked, Refusal> {
     if data.len() > MAX_BYTES {
         return Err(Refusal::new(1, 0));
@@ -56,7 +57,7 @@ pub fn check(data: &[u8], boundary: impl FnMut(u64, usize)) -> Result<Checked, R
     contents.finish()
 }
 
-/// What header and fragments come to. They are checked as they come, and a
+/// What header and chunks come to. They are checked as they come, and a
 /// broken rule waits: framing and order are tried first, over the whole slice.
 struct Contents<'a, B> {
     boundary: B,
@@ -64,8 +65,10 @@ struct Contents<'a, B> {
     header: Option<Header>,
     /// The last one that was met.
     moof: Moof<'a>,
+    /// How many chunks began one, and the `moof` of the last that did.
     fragments: usize,
-    /// The end of the last fragment.
+    fragment_at: usize,
+    /// The end of the last chunk.
     clock: Option<u64>,
     /// The first of rules 7 to 22 that is broken.
     broken: Option<Refusal>,
@@ -79,6 +82,7 @@ impl<'a, B: FnMut(u64, usize)> Contents<'a, B> {
             header: None,
             moof: Moof::default(),
             fragments: 0,
+            fragment_at: 0,
             clock: None,
             broken: None,
         }
@@ -97,11 +101,15 @@ impl<'a, B: FnMut(u64, usize)> Contents<'a, B> {
     #[inline(always)]
     fn add_mdat(&mut self, mdat: Framed) {
         let (Some(header), None) = (&self.header, self.broken) else { return };
-        match fragment::check(header, &self.moof, &mdat.into(), self.clock) {
-            Ok(span) => {
-                (self.boundary)(span.start, self.moof.at);
-                self.clock = Some(span.end);
-                self.fragments += 1;
+        match chunk::check(header, &self.moof, &mdat.into(), self.clock) {
+            Ok(chunk) => {
+                // By rule 21 the first one does.
+                if chunk.is_sync {
+                    (self.boundary)(chunk.start, self.moof.at);
+                    self.fragments += 1;
+                    self.fragment_at = self.moof.at;
+                }
+                self.clock = Some(chunk.end);
             }
             Err(refusal) => self.broken = Some(refusal),
         }
@@ -112,11 +120,11 @@ impl<'a, B: FnMut(u64, usize)> Contents<'a, B> {
         if let Some(refusal) = self.broken {
             return Err(refusal);
         }
-        // Rule 6: there was a `moov`, and a fragment.
+        // Rule 6: there was a `moov`, and a chunk.
         let (Some(header), Some(end)) = (self.header, self.clock) else {
             return Err(Refusal::new(6, 0));
         };
-        (self.boundary)(end, self.moof.at);
+        (self.boundary)(end, self.fragment_at);
         Ok(Checked { header, fragments: self.fragments })
     }
 }

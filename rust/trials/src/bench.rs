@@ -6,6 +6,7 @@ use crate::drawn::AMPLE;
 use crate::judge::Judge;
 use crate::run::compare;
 use crate::tracks::{bundle, crowded, large, many_runs, unusual, Dress, Shape, State};
+use crate::tracks::{Together, APART, MAX_CHUNKS};
 use maker::cases::Job;
 use maker::node::{self, Node};
 use std::hint::black_box;
@@ -30,18 +31,27 @@ pub fn bench(tried: Judge) -> Result<(), String> {
     for (size, bytes) in SIZES {
         for shape in [Shape::FewLarge, Shape::ManySmall] {
             let name = format!("{size}, {}", shape.name());
-            worst = worst.max(bench_track(tried, &name, large(bytes, shape))?);
+            worst = worst.max(bench_track(tried, &name, large(bytes, shape, APART))?);
         }
     }
-    let fragments = large(0, Shape::ManyFragments);
+    let small = |together| large(0, Shape::ManyChunks, together);
     for (name, boxes) in [
         ("4,096 boxes", crowded()),
-        ("582 fragments", fragments),
-        ("509 fragments, a box behind", unusual(Dress::BoxBehind)),
-        ("509 fragments of two runs", unusual(Dress::TwoRuns)),
-        ("582 fragments, long headers", unusual(Dress::LongHeaders)),
-        ("582 fragments, backwards", unusual(Dress::Backwards)),
+        ("582 fragments", small(APART)),
+        ("509 fragments, a box behind", unusual(Dress::BoxBehind, APART)),
+        ("509 fragments of two runs", unusual(Dress::TwoRuns, APART)),
+        ("582 fragments, long headers", unusual(Dress::LongHeaders, APART)),
+        ("582 fragments, backwards", unusual(Dress::Backwards, APART)),
         ("4,070 runs", many_runs()),
+        // The same chunks, of the same sizes: only first-sample flags differ.
+        ("582 chunks by 2", small(Together(2))),
+        ("582 chunks by 40", small(Together(40))),
+        ("582 chunks in one fragment", small(Together(MAX_CHUNKS))),
+        ("509 chunks of two runs by 40", unusual(Dress::TwoRuns, Together(40))),
+        ("509 fragments, an empty run first", unusual(Dress::EmptyRun, APART)),
+        ("509 chunks by 40, an empty run first", unusual(Dress::EmptyRun, Together(40))),
+        ("582 chunks by 40, backwards", unusual(Dress::Backwards, Together(40))),
+        ("100 MiB, few large, by 40", large(100 << 20, Shape::FewLarge, Together(40))),
     ] {
         worst = worst.max(bench_track(tried, name, boxes)?);
     }

@@ -3,7 +3,7 @@
 
 use crate::drawn::AMPLE;
 use crate::judge::Judge;
-use crate::tracks::{crowded, full, large, one_data_box, Shape};
+use crate::tracks::{crowded, full, large, one_data_box, Shape, Together, APART};
 use maker::cases::Job;
 use maker::node::{self, Node};
 use std::hint::black_box;
@@ -21,12 +21,19 @@ pub fn bench(tried: Judge) -> Result<(), String> {
         "{:48} {:>9} {:>12} {:>12} {:>9} {:>9}",
         "input", "pieces", "in pieces", "whole", "a piece", "within"
     );
-    row(tried, "500 MiB, 4,096 boxes, pieces of 64 KiB", full(500 << 20), 1 << 16)?;
-    row(tried, "500 MiB, few large, pieces of 64 KiB", large(500 << 20, Shape::FewLarge), 1 << 16)?;
-    row(tried, "1 MiB, 582 fragments, pieces of 1,500", full((1 << 20) - (250 << 10)), 1500)?;
-    row(tried, "582 fragments, pieces of 1 byte", large(0, Shape::ManyFragments), 1)?;
+    let by_40 = Together(40);
+    let few = large(500 << 20, Shape::FewLarge, APART);
+    let mebibyte = |together| full((1 << 20) - (250 << 10), together);
+    let small = |together| large(0, Shape::ManyChunks, together);
+    row(tried, "500 MiB, 4,096 boxes, pieces of 64 KiB", full(500 << 20, APART), 1 << 16)?;
+    row(tried, "500 MiB, few large, pieces of 64 KiB", few, 1 << 16)?;
+    row(tried, "1 MiB, 582 fragments, pieces of 1,500", mebibyte(APART), 1500)?;
+    row(tried, "582 fragments, pieces of 1 byte", small(APART), 1)?;
     row(tried, "4,096 boxes, pieces of 1 byte", crowded(), 1)?;
-    row(tried, "a data box of 30 KiB, pieces of 1 byte", one_data_box(30 << 10), 1)
+    row(tried, "a data box of 30 KiB, pieces of 1 byte", one_data_box(30 << 10), 1)?;
+    row(tried, "500 MiB, 582 chunks by 40, pieces of 64 KiB", full(500 << 20, by_40), 1 << 16)?;
+    row(tried, "1 MiB, 582 chunks by 40, pieces of 1,500", mebibyte(by_40), 1500)?;
+    row(tried, "582 chunks by 40, pieces of 1 byte", small(by_40), 1)
 }
 
 /// Prints a line.

@@ -9,9 +9,11 @@ mod expect;
 mod guarded;
 mod histogram;
 mod judge;
+mod lines;
 mod options;
 mod pieces;
 mod pipe;
+mod player;
 mod run;
 #[cfg(linked)]
 mod scribble;
@@ -32,6 +34,8 @@ usage: trials run [--seed S] [--from K] [--cases N]
                                                    the archive's verdicts and tables, N cases a job
        trials pieces [--seed S] [--from K] [--cases N]
                                                    of these the job pieces alone
+       trials player [--seed S] [--from K] [--cases N]
+                                                   the player over drawn sets, by the archive's verdicts
        trials pipe [--seed S] [--from K] [--cases N] -- COMMAND..
                                                    the same of a program that reads cases
        trials self [--seed S] [--from K] [--cases N]
@@ -47,6 +51,7 @@ usage: trials run [--seed S] [--from K] [--cases N]
        trials vectors [--seed S] [--cases N] [--max BYTES]
                                                    write cases.bin, expected.txt, names.txt,
                                                    and those of the program `stream`
+       trials lines                                the reference's lines for stored cases, from standard input
        trials expect FILE..                        what `intake` prints for bundles, under a line `== FILE` each
        trials expect                               the same for standard input, without that line
        trials dump NAME                            write an example to standard output
@@ -71,6 +76,10 @@ fn dispatch(command: &str, rest: &[String]) -> Result<(), String> {
         "pieces" => {
             let (seed, from, cases) = span(rest)?;
             pieces::run(Judge::archive()?, seed, from, cases)
+        }
+        "player" => {
+            let (seed, from, cases) = span(rest)?;
+            player::run(Judge::archive().unwrap_or(Judge::REFERENCE), seed, from, cases)
         }
         "self" => run_as(Judge::REFERENCE, rest),
         "pipe" => {
@@ -97,6 +106,7 @@ fn dispatch(command: &str, rest: &[String]) -> Result<(), String> {
             let max = options.get("max", 16_384) as usize;
             vectors::vectors(options.get("seed", 1), options.get("cases", 900), max)
         }
+        "lines" => lines::lines(),
         "expect" => expect::expect(rest),
         "dump" => dump::dump(rest),
         _ => Err(USAGE.to_string()),

@@ -4,7 +4,8 @@ use crate::drawn::AMPLE;
 use crate::judge::Judge;
 use crate::run::compare;
 use crate::small_stack::with_stack;
-use crate::tracks::{bundle, crowded, crowded_in, large, many_runs, Shape};
+use crate::tracks::{bundle, crowded, crowded_in, large, many_runs, unusual, Dress, Shape};
+use crate::tracks::{Together, APART, MAX_CHUNKS};
 use maker::cases::Job;
 use maker::layout::{is_container, join};
 use maker::node::{self, Header, Kind, Node};
@@ -63,28 +64,33 @@ fn worst() -> Vec<(&'static str, Vec<u8>)> {
     let set = |name, track: Vec<Node>| (name, node::bytes(&bundle(&[&track[..]; 16])));
     let flat = |kind: &Kind| vec![Node::leaf(kind, vec![]); reference::MAX_BOXES];
     let deepest = nested("", &[b"moov", b"trak", b"mdia", b"minf", b"stbl", b"stsd"]);
-    let fragment = nested("", &[b"moof", b"traf", b"trun"]);
+    let chunk = nested("", &[b"moof", b"traf", b"trun"]);
     let deep = |node: &Node| {
         vec![node.clone(); reference::MAX_BOXES / node::count(std::slice::from_ref(node))]
     };
-    let fragments = large(0, Shape::ManyFragments);
+    let small = |together| large(0, Shape::ManyChunks, together);
     vec![
         ("no bytes", Vec::new()),
         track("4,096 boxes", flat(b"free")),
         track("4,096 moov", flat(b"moov")),
         track("deepest nesting", vec![deepest.clone()]),
         track("deepest nesting, many times", deep(&deepest)),
-        track("fragments of nothing, many times", deep(&fragment)),
+        track("chunks of nothing, many times", deep(&chunk)),
         track("a good track of 4,096 boxes", crowded()),
-        track("a good track of 582 fragments", fragments.clone()),
+        track("a good track of 582 fragments", small(APART)),
+        track("a good track of 582 chunks by 40", small(Together(40))),
+        track("a good track of 582 chunks in one fragment", small(Together(MAX_CHUNKS))),
+        track("509 chunks by 40, an empty run first", unusual(Dress::EmptyRun, Together(40))),
         track("65,536 samples in many runs", many_runs()),
-        track("long runs", large(1 << 20, Shape::ManySmall)),
+        track("long runs", large(1 << 20, Shape::ManySmall, APART)),
         track("a good track with a crowd in moov", crowded_in(&[(*b"moov", 0)], true)),
         track("a good track with a crowd in moof", crowded_in(&[(*b"moof", 1)], false)),
         track("a moov of 32,768 bytes", large_t(b"moov", Header::Short, 32_768, true)),
         track("a moof of 32,768 bytes", large_t(b"moof", Header::Long, 32_768, false)),
         set("16 tracks of 4,096 boxes", crowded()),
-        set("16 tracks of 582 fragments", fragments),
+        set("16 tracks of 582 fragments", small(APART)),
+        set("16 tracks of 582 chunks by 40", small(Together(40))),
+        set("16 tracks of 582 chunks in one fragment", small(Together(MAX_CHUNKS))),
         set("16 tracks of 65,536 samples in many runs", many_runs()),
         set("16 tracks of deepest nesting", deep(&deepest)),
     ]

@@ -4,10 +4,10 @@
 //! all at once.
 
 use crate::wire;
-use maker::examples::{examples, track_t};
+use maker::examples::{examples, track_t, track_u};
 use maker::node::{self, Header, Node};
 use maker::pieces::{declared, large_t, BOUNDED};
-use maker::track::{Fill, Track};
+use maker::track::{Fill, Track, NON_SYNC};
 use reference::{pieces_whole, Pieces, PiecesAnswer, Verdict};
 use std::collections::BTreeMap;
 
@@ -32,6 +32,7 @@ impl Streams {
         let mut streams = Streams::default();
         streams.smallest();
         streams.good();
+        streams.chunks();
         streams.by_number();
         streams.later_faults();
         streams.declared_sizes();
@@ -74,15 +75,31 @@ impl Streams {
     fn good(&mut self) {
         self.add_by(&STEPS, "T", &node::bytes(&track_t()));
         let mut late = Track::example(1);
-        late.fragments[0].wide_tfdt = true;
-        late.fragments[0].start = (1 << 63) - 1 - 180_000;
+        late.chunks[0].wide_tfdt = true;
+        late.chunks[0].start = (1 << 63) - 1 - 180_000;
         self.add_by(&[1, 0], "the last end that there is", &bytes_of(&late));
-        late.fragments[0].start += 1;
+        late.chunks[0].start += 1;
         self.add("an end one tick later", &bytes_of(&late), 7);
         self.add("9 fragments", &bytes_of(&Track::example(9)), 8);
         let mut boxes = track_t();
         boxes.push(Node::zeros(b"free", 600));
         self.add("a box behind", &node::bytes(&boxes), 7);
+    }
+
+    /// U, which has three chunks in two fragments, and what is refused of it.
+    fn chunks(&mut self) {
+        self.add_by(&STEPS, "U", &node::bytes(&track_u()));
+        let mut late = Track::example_u();
+        late.chunks[1].start += 1;
+        self.add_by(&[1, 0], "U, second chunk a tick late", &bytes_of(&late));
+        let mut unsync = Track::example_u();
+        unsync.chunks[0].runs[0].flags |= 0x4;
+        unsync.chunks[0].runs[0].first_sample_flags = NON_SYNC;
+        self.add_by(&[7, 4096], "U, first chunk non-sync", &bytes_of(&unsync));
+        let mut whole = Track::example(40);
+        whole.trex.flags = NON_SYNC;
+        whole.chunks[0].tfhd_flags |= 0x20;
+        self.add_by(&[8, 0], "40 chunks in one fragment", &bytes_of(&whole));
     }
 
     /// One short example of each number.
@@ -103,7 +120,7 @@ impl Streams {
     /// T with its second start a tick late, and behind it what is tried before.
     fn later_faults(&mut self) {
         let mut track = Track::example(2);
-        track.fragments[1].start += 1;
+        track.chunks[1].start += 1;
         let bad = bytes_of(&track);
         self.add_by(&[0, 1, 8], "19", &bad);
         let mdat = declared(b"mdat", Header::Short, 8);

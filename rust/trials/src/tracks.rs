@@ -2,22 +2,22 @@
 
 use maker::bundle::MARK;
 use maker::node::{self, Content, Header, Node, Step};
-use maker::track::{Defaults, Fill, Fragment, Run, Sample, Track, NON_SYNC};
+use maker::track::{Chunk, Defaults, Fill, Run, Sample, Track, NON_SYNC};
 use reference::MAX_BOXES;
 
-/// No more fragments fit into 4,096 boxes beside the header.
-pub const MAX_FRAGMENTS: usize = 582;
+/// No more chunks fit into 4,096 boxes beside the header.
+pub const MAX_CHUNKS: usize = 582;
 const MAX_SAMPLES: usize = 65_536;
 
 /// How a track fills its bytes.
 #[derive(Clone, Copy)]
 pub enum Shape {
-    /// Some 48 samples a fragment, as large as it takes.
+    /// Some 48 samples a chunk, as large as it takes.
     FewLarge,
     /// As many samples as fit, each with a duration and a size of its own.
     ManySmall,
-    /// Fragments and nothing but fragments, a sample each.
-    ManyFragments,
+    /// Chunks and nothing but chunks, a sample each.
+    ManyChunks,
 }
 
 impl Shape {
@@ -25,53 +25,67 @@ impl Shape {
         match self {
             Shape::FewLarge => "few large",
             Shape::ManySmall => "many small",
-            Shape::ManyFragments => "many fragments",
+            Shape::ManyChunks => "many chunks",
         }
     }
 
-    /// Fragments, and samples in each, for about this many bytes.
+    /// Chunks, and samples in each, for about this many bytes.
     fn plan(self, bytes: usize) -> (usize, usize) {
         match self {
             Shape::FewLarge => ((bytes >> 18).clamp(2, 500), 48),
             Shape::ManySmall => {
                 // 8 bytes in the run and about 6 of payload.
                 let samples = bytes / 14;
-                let fragments = samples.div_ceil(MAX_SAMPLES).clamp(2, MAX_FRAGMENTS);
-                (fragments, (samples / fragments).clamp(1, MAX_SAMPLES))
+                let chunks = samples.div_ceil(MAX_SAMPLES).clamp(2, MAX_CHUNKS);
+                (chunks, (samples / chunks).clamp(1, MAX_SAMPLES))
             }
-            Shape::ManyFragments => (MAX_FRAGMENTS, 1),
+            Shape::ManyChunks => (MAX_CHUNKS, 1),
         }
     }
 }
 
+/// So many chunks a fragment, one and more. The tracks differ in first-sample flags alone.
+#[derive(Clone, Copy)]
+pub struct Together(pub usize);
+
+/// Each chunk is a fragment.
+pub const APART: Together = Together(1);
+
 /// A good track of about this many bytes.
-pub fn large(bytes: usize, shape: Shape) -> Vec<Node> {
-    planned(bytes, shape.plan(bytes)).boxes(&mut Fill::Zeros)
+pub fn large(bytes: usize, shape: Shape, together: Together) -> Vec<Node> {
+    planned(bytes, shape.plan(bytes), together).boxes(&mut Fill::Zeros)
 }
 
-/// A good track of about this many bytes in as many boxes and fragments as there may be.
-pub fn full(bytes: usize) -> Vec<Node> {
-    let mut boxes = planned(bytes, (MAX_FRAGMENTS, 48)).boxes(&mut Fill::Zeros);
+/// A good track of about this many bytes in as many boxes and chunks as there may be.
+pub fn full(bytes: usize, together: Together) -> Vec<Node> {
+    let mut boxes = planned(bytes, (MAX_CHUNKS, 48), together).boxes(&mut Fill::Zeros);
     node::fill_up(&mut boxes, MAX_BOXES);
     boxes
 }
 
 /// A good track with one data box of this many bytes.
 pub fn one_data_box(bytes: usize) -> Vec<Node> {
-    planned(bytes, (1, 48)).boxes(&mut Fill::Zeros)
+    planned(bytes, (1, 48), APART).boxes(&mut Fill::Zeros)
 }
 
-/// As many fragments of a sample each as fit, with what few encoders write.
-pub fn unusual(dress: Dress) -> Vec<Node> {
-    let fragments = match dress {
-        Dress::BoxBehind | Dress::TwoRuns => (MAX_BOXES - 20) / 8,
-        Dress::LongHeaders | Dress::Backwards => MAX_FRAGMENTS,
+/// As many chunks of a sample each as fit, with what few encoders write.
+pub fn unusual(dress: Dress, together: Together) -> Vec<Node> {
+    let chunks = match dress {
+        Dress::BoxBehind | Dress::TwoRuns | Dress::EmptyRun => (MAX_BOXES - 20) / 8,
+        Dress::LongHeaders | Dress::Backwards => MAX_CHUNKS,
     };
-    let mut track = planned(0, (fragments, 1));
-    if let Dress::TwoRuns = dress {
-        for fragment in &mut track.fragments {
-            fragment.runs.push(fragment.runs[0].clone());
-            fragment.start *= 2;
+    let mut track = planned(0, (chunks, 1), together);
+    for chunk in &mut track.chunks {
+        match dress {
+            Dress::TwoRuns => {
+                chunk.runs.push(chunk.runs[0].clone());
+                chunk.start *= 2;
+            }
+            Dress::EmptyRun => {
+                let empty = Run { count: 0, samples: vec![], ..chunk.runs[0].clone() };
+                chunk.runs.insert(0, empty);
+            }
+            _ => (),
         }
     }
     let mut boxes = track.boxes(&mut Fill::Zeros);
@@ -89,6 +103,8 @@ pub enum Dress {
     BoxBehind,
     /// A second run.
     TwoRuns,
+    /// A run without samples, before the run.
+    EmptyRun,
     /// The long header, in every box.
     LongHeaders,
     /// The boxes of `moof` and of `traf`, last to first.
@@ -103,7 +119,7 @@ impl Dress {
                 let traf = moof.boxes().iter_mut().find(is_traf).expect("a traf");
                 traf.boxes().push(Node::leaf(b"saiz", vec![0; 9]));
             }
-            Dress::TwoRuns => (),
+            Dress::TwoRuns | Dress::EmptyRun => (),
             Dress::LongHeaders => {
                 moof.header = Header::Long;
                 if let Content::Boxes(inside) = &mut moof.content {
@@ -120,11 +136,11 @@ impl Dress {
     }
 }
 
-/// A good track of so many fragments, of so many samples each, in about this many bytes.
-fn planned(bytes: usize, (fragments, samples): (usize, usize)) -> Track {
-    let entries = fragments * samples * 8;
-    let size = (bytes.saturating_sub(entries) / fragments / samples) as u32;
-    let fragment = |nth: usize| {
+/// A good track of so many chunks, of so many samples each, in about this many bytes.
+fn planned(bytes: usize, (chunks, samples): (usize, usize), Together(together): Together) -> Track {
+    let entries = chunks * samples * 8;
+    let size = (bytes.saturating_sub(entries) / chunks / samples) as u32;
+    let chunk = |nth: usize| {
         // Neighbours differ, so that no sum is a product in disguise.
         let sample = |i: usize| Sample {
             duration: 3000 + (i % 2) as u32,
@@ -135,13 +151,13 @@ fn planned(bytes: usize, (fragments, samples): (usize, usize)) -> Track {
             version: 1,
             flags: 0x305,
             count: samples as u32,
-            first_sample_flags: 0,
+            first_sample_flags: if nth.is_multiple_of(together) { 0 } else { NON_SYNC },
             samples: (0..samples).map(sample).collect(),
             offset_error: 0,
         };
         let ticks = run.duration(&Defaults::default());
         let start = nth as u64 * ticks;
-        Fragment {
+        Chunk {
             start,
             wide_tfdt: true,
             tfhd_flags: 0x02_0000,
@@ -151,7 +167,7 @@ fn planned(bytes: usize, (fragments, samples): (usize, usize)) -> Track {
     };
     let mut track = Track::example(0);
     track.trex.flags = NON_SYNC;
-    track.fragments = (0..fragments).map(fragment).collect();
+    track.chunks = (0..chunks).map(chunk).collect();
     track
 }
 
@@ -175,7 +191,7 @@ pub fn crowded_in(path: &[Step], front: bool) -> Vec<Node> {
     boxes
 }
 
-/// One fragment of 65,536 samples in as many runs as boxes allow.
+/// One chunk of 65,536 samples in as many runs as boxes allow.
 pub fn many_runs() -> Vec<Node> {
     let run = |count: usize| Run {
         version: 0,
@@ -189,7 +205,7 @@ pub fn many_runs() -> Vec<Node> {
     let mut track = Track::example(1);
     let mut counts = vec![MAX_SAMPLES / runs; runs];
     counts[0] += MAX_SAMPLES % runs;
-    track.fragments[0].runs = counts.into_iter().map(run).collect();
+    track.chunks[0].runs = counts.into_iter().map(run).collect();
     track.boxes(&mut Fill::Zeros)
 }
 
@@ -208,7 +224,7 @@ pub fn bundle(tracks: &[&[Node]]) -> Vec<Node> {
 #[derive(Clone, Copy)]
 pub enum State {
     Good,
-    /// The last fragment ends a tick off: good by itself, rule 28 in a set.
+    /// The last chunk ends a tick off: good by itself, rule 28 in a set.
     OtherEnd,
     /// In the last data box: rule 22, after every sum.
     SpareByte,
@@ -233,7 +249,7 @@ impl State {
             State::Good => (),
             State::OtherEnd => {
                 let last = |boxes: &mut [Node], kind: &[u8; 4]| {
-                    boxes.iter().rposition(|node| node.kind == *kind).expect("a fragment's box")
+                    boxes.iter().rposition(|node| node.kind == *kind).expect("a chunk's box")
                 };
                 let moof = last(boxes, b"moof");
                 let traf = last(boxes[moof].boxes(), b"traf");

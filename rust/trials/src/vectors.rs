@@ -9,7 +9,7 @@ use maker::cases::{Case, Job};
 use maker::examples::examples;
 use std::collections::BTreeMap;
 
-/// What the drawn cases may take, so that the three files stay below 860,000 bytes.
+/// What the drawn cases may take, so that the three files stay below 930,000 bytes.
 const BUDGET: usize = 198_140;
 /// Of the examples longer than `--max`, only so many find room.
 const LONG_EXAMPLES: usize = 4;
@@ -54,7 +54,7 @@ impl Files {
         self.count += 1;
     }
 
-    /// Document 01's examples; small accepted ones also with a table one too
+    /// The examples; small accepted ones also with a table one too
     /// short, and with the longest.
     fn add_examples(&mut self, max: usize) {
         let mut long = 0;

@@ -7,7 +7,7 @@
 //! the call.
 
 use crate::judge::Judge;
-use maker::cases::Case;
+use maker::cases::{Case, Job};
 use reference::Verdict;
 
 /// The longest slice and the longest table that a program must take.
@@ -26,6 +26,18 @@ pub fn put_bytes(job: u8, room: usize, bytes: &[u8], out: &mut Vec<u8>) {
         out.extend(u32::try_from(length).expect("a short case").to_be_bytes());
     }
     out.extend(bytes);
+}
+
+/// The next case and its table's length, where the bytes begin with one of those jobs.
+pub fn take(bytes: &mut &[u8]) -> Option<(Case, usize)> {
+    let (&job, rest) = bytes.split_first()?;
+    let (&room, rest) = rest.split_first_chunk()?;
+    let (&length, rest) = rest.split_first_chunk()?;
+    let [room, length] = [room, length].map(|number| u32::from_be_bytes(number) as usize);
+    let (slice, rest) = rest.split_at_checked(length)?;
+    let job = *Job::ALL.get(usize::from(job))?;
+    *bytes = rest;
+    Some((Case { job, bytes: slice.to_vec(), expected: None }, room))
 }
 
 /// The reference's verdict, and the line of a program that agrees.
@@ -51,7 +63,6 @@ fn sum(table: &[u64]) -> u64 {
 #[cfg(test)]
 mod tests {
     use super::*;
-    use maker::cases::Job;
 
     #[test]
     fn sums() {
@@ -68,6 +79,9 @@ mod tests {
         let mut out = Vec::new();
         put(&case, 2, &mut out);
         assert_eq!(out, [1, 0, 0, 0, 2, 0, 0, 0, 7, 0, 0, 0, 0, 0, 0, 0]);
+        let (taken, room) = take(&mut &out[..]).unwrap();
+        assert_eq!((taken.job, taken.bytes, room), (Job::Track, vec![0; 7], 2));
+        assert!(take(&mut &out[..15]).is_none());
         let (verdict, line) = answer(&case, 2);
         assert_eq!(verdict.number, 2);
         assert_eq!(line, "1 2 0 0 0 0 39");

@@ -3,7 +3,7 @@ use mathlib.Core.Path.{sym, _∙_}
 use native.Mathlib.Nat.{mul-zero, add-zero}
 use native.Mathlib.Omega.{arith}
 use borrow.Author.Needs.{needs}
-use Rattle.rules.specs.Fragment.{sampleAt, firstFlagsOf}
+use Rattle.rules.specs.Chunk.{sampleAt, firstFlagsOf}
 use Rattle.runs.proofs.Flags.{reach-first, reach-own}
 use Rattle.runs.proofs.first_flags_of.Statement.{statement}
 use Rattle.runs.proofs.first_flags_of.Tie as tie

@@ -4,7 +4,7 @@ use native.Mathlib.Omega.{arith}
 use borrow.Author.Needs.{needs, sfits-of}
 use mir.Syntax.{w32}
 use mir.ValLaws.{toZ-ofZ}
-use Rattle.rules.specs.Fragment.{placed, offsetIs}
+use Rattle.rules.specs.Chunk.{placed, offsetIs}
 use Rattle.runs.proofs.Flags.{reach-offset}
 use Rattle.runs.proofs.placed.Statement.{statement}
 use Rattle.runs.proofs.placed.Tie as tie

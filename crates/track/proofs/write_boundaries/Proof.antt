@@ -9,13 +9,13 @@ use Rattle.track.proofs.write_boundaries.Statement.{statement}
 use Rattle.track.proofs.write_boundaries.Tie as tie
 
 abbrev Inv-loop : tie.InvT-loop
-Inv-loop s end t₀ at₀ k₀ t at k = Writing s t₀ end at k t
+Inv-loop s f t₀ at₀ k₀ t at k = Writing s t₀ f at k t
 
 abbrev μ-loop : tie.MeasureT-loop
-μ-loop s end t₀ at₀ k₀ t at k = length s - at
+μ-loop s f t₀ at₀ k₀ t at k = length s - at
 
 loop-holds : tie.Need-loop-holds Inv-loop μ-loop
-loop-holds c = let p = c .before .before .pre in writing-begins _ _ (p .0) (p .1) (p .2)
+loop-holds c = let p = c .before .before .pre in writing-begins _ _ _ (p .0) (p .1)
 
 put-last-requires : tie.Need-put-last-requires Inv-loop μ-loop
 put-last-requires c κs = end-room _ _ (c .before .before .before .before .loop .inv) (rw (c .before .enum-told .given .1) at (c .before .before .before .next-fragment .ensures))
@@ -59,7 +59,7 @@ write-boundaries-spec =
     Inv-loop
     μ-loop
     loop-holds
-    (λ c κs. c .loop .inv .short)
+    (λ c κs. (c .loop .inv .short, c .loop .inv .sync))
     (λ c. search needs)
     (λ c. search needs)
     put-last-requires

@@ -1,7 +1,7 @@
 //! What stands at the refused place, and what the rule asks for, in words and where it is one
 //! number also as that. Computed from the bytes and the proved jobs; it never changes the verdict.
 
-mod fragment;
+mod chunk;
 mod framing;
 mod header;
 mod set;
@@ -47,8 +47,8 @@ pub fn many(number: impl Into<i128>, thing: &str) -> String {
     format!("{number} {thing}{}", if number == 1 { "" } else { "s" })
 }
 
-/// The contrast of a refusal of the track itself, numbers 1 to 22. `start` is where the fragment
-/// before ended, if there is one.
+/// The contrast of a refusal of the track itself, numbers 1 to 22. `start` is where the chunk before
+/// ended, if there is one.
 pub fn in_track(number: u64, track: &Track, place: u64, start: Option<u64>) -> Option<Contrast> {
     let view = track.view();
     let at = view.at(place);
@@ -66,14 +66,14 @@ pub fn in_track(number: u64, track: &Track, place: u64, start: Option<u64>) -> O
         11 => header::track_id(view, at?),
         12 => header::handler(view, at?),
         13 => header::sample_table(view, at?),
-        15 => fragment::body(view, at?),
-        16 => fragment::flags(view, at?),
+        15 => chunk::body(view, at?),
+        16 => chunk::flags(view, at?),
         17 => other_track_id(view, at?),
-        18 => fragment::sample_count(view, at?),
-        19 => fragment::decode_time(view, at?, start?, timescale(view)?),
-        20 => fragment::duration(view, at?),
-        21 => fragment::sync(view, at?),
-        22 => fragment::tiling(view, at?),
+        18 => chunk::sample_count(view, at?),
+        19 => chunk::decode_time(view, at?, start?, timescale(view)?),
+        20 => chunk::duration(view, at?),
+        21 => chunk::sync(view, at?),
+        22 => chunk::tiling(view, at?),
         _ => None,
     }
 }

@@ -2,6 +2,7 @@
 
 use super::{contrast, counted, many, said, Contrast};
 use crate::facts::Track;
+use crate::judge::BoxAt;
 use crate::layout::letters;
 use crate::time::seconds;
 use crate::view::View;
@@ -21,7 +22,10 @@ pub fn beside(number: u64, track: &Track, zero: &Track) -> Option<Contrast> {
             contrast(said(format!("handler {one}")), said(format!("handler {other} as in track 0")))
         }
         26 => pair(&|number| format!("timescale {number}"), one.timescale, other.timescale),
-        27 => pair(&|number| many(number, "fragment"), one.count, other.count),
+        27 => contrast(
+            counted(one.count, many(one.count, "fragment") + &in_chunks(track)),
+            counted(other.count, format!("{} as in track 0", many(other.count, "fragment"))),
+        ),
         28 => {
             let mut both = track.alone.boundaries.iter().zip(&zero.alone.boundaries).enumerate();
             let (nth, (one, other)) = both.find(|(_, (one, other))| one != other)?;
@@ -31,6 +35,18 @@ pub fn beside(number: u64, track: &Track, zero: &Track) -> Option<Contrast> {
             pair(&words, *one, *other)
         }
         _ => None,
+    }
+}
+
+/// ` in 8 chunks`, where an accepted track has more of them than fragments.
+fn in_chunks(track: &Track) -> String {
+    let is_chunk = |one: &&BoxAt| one.depth == 0 && one.kind == *b"moof";
+    let chunks = track.listing.boxes.iter().filter(is_chunk).count() as u64;
+    let several = chunks != track.alone.verdict.count;
+    if several {
+        format!(" in {}", many(chunks, "chunk"))
+    } else {
+        String::new()
     }
 }
 

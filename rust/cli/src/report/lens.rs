@@ -101,7 +101,7 @@ pub fn lens(svg: &mut Svg, rows: &[Row], mark: &Mark, whole: &Scale, top: f64) -
 fn window(row: &Row, mark: &Mark) -> Option<Window> {
     match mark.place {
         Place::Header | Place::Tail => None,
-        Place::Fragment { start, end } => {
+        Place::Chunk { start, end } => {
             let to = end.unwrap_or_else(|| guessed_end(row, start)).max(start);
             Some(Window { from: start, to, around: ((to - start) / 4 * 3).max(1) })
         }
@@ -109,7 +109,7 @@ fn window(row: &Row, mark: &Mark) -> Option<Window> {
             let (from, to) = (found.min(expected), found.max(expected));
             let distance = to - from;
             // Not much more than a fragment on each side.
-            let length = row.length_before(expected).unwrap_or(distance);
+            let length = row.fragment_before(expected).unwrap_or(distance);
             let around = (distance / 2).saturating_mul(3).min(length.saturating_add(length / 4));
             Some(Window { from, to, around: around.max(1) })
         }
@@ -173,10 +173,10 @@ fn beside(svg: &mut Svg, class: &str, (x, other): (f64, f64), scale: &Scale, y: 
     svg.text(class, x + aside, y, anchor, text);
 }
 
-/// The tick of each boundary, where there is room and nothing refused.
+/// The tick of each boundary and of each chunk, where there is room and nothing refused.
 fn labels(svg: &mut Svg, row: &Row, scale: &Scale, line: Line, refused: Option<(f64, f64)>) {
     let read = row.read.iter().flat_map(|read| [read.start, read.end]);
-    let mut ticks: Vec<u64> = row.judged.iter().copied().chain(read).collect();
+    let mut ticks: Vec<u64> = row.judged.iter().chain(&row.parts).copied().chain(read).collect();
     ticks.sort_unstable();
     ticks.dedup();
     let inside = |x: f64| x >= scale.left - 0.01 && x <= scale.right() + 0.01;

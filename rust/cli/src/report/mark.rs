@@ -15,13 +15,13 @@ pub struct Mark {
 /// Ticks are those of the row.
 #[derive(Clone, Copy, Debug, PartialEq, Eq)]
 pub enum Place {
-    /// Before the first fragment, or in one whose time can't be read.
+    /// Before the first chunk, or in one whose time can't be read.
     Header,
     /// From its start on; the end may not be readable.
-    Fragment { start: u64, end: Option<u64> },
+    Chunk { start: u64, end: Option<u64> },
     /// A tick that stands elsewhere than expected; `at` is the moment from which on it is wrong.
     Ticks { found: u64, expected: u64, at: u64 },
-    /// After the last fragment.
+    /// After the last chunk.
     Tail,
 }
 
@@ -55,8 +55,16 @@ fn decode_time(reason: &Reason, row: &Row) -> Option<(Place, String)> {
     let expected = u64::try_from(contrast.expected.number?).ok()?;
     let shift = shift(found, expected, row.timescale);
     let what = if found > expected { "a gap" } else { "an overlap" };
-    let words = format!("fragment {} starts {shift}: {what}", reason.fragment?.number);
+    let words = format!("{} starts {shift}: {what}", chunk(reason)?);
     Some((Place::Ticks { found, expected, at: expected }, words))
+}
+
+/// `chunk 5 (of fragment 1)`; just the chunk where its fragment has the same number or none.
+fn chunk(reason: &Reason) -> Option<String> {
+    let number = reason.chunk?.number;
+    let other = reason.fragment.filter(|fragment| fragment.number != number);
+    let of = other.map_or(String::new(), |fragment| format!(" (of fragment {})", fragment.number));
+    Some(format!("chunk {number}{of}"))
 }
 
 /// 27 and 28: the first boundary that differs; where none does, the end of the shorter track.
@@ -77,26 +85,25 @@ fn beside(verdict: &Verdict, row: &Row, zero: &Row) -> Option<(Place, String)> {
     Some((ticks(*row.judged.last()?, *zero.judged.last()?), words))
 }
 
-/// Other refusals: the fragment in which the refused box stands, or what is before and after all.
+/// Other refusals: the chunk in which the refused box stands, or what is before and after all.
 fn box_at(verdict: &Verdict, reason: &Reason, row: &Row, track: &Track) -> (Place, String) {
-    let Some(fragment) = reason.fragment else {
+    let Some((number, chunk)) = reason.chunk.map(|one| one.number).zip(chunk(reason)) else {
         let before = |(place, moof): (u64, u64)| place < moof;
         let moof = track.view().child(None, b"moof").map(|nth| track.listing.boxes[nth].offset);
         return match moof.map(|moof| (verdict.place, moof)) {
             Some(places) if !before(places) && !row.is_empty() => {
-                (Place::Tail, "refused after the last fragment that can be read".to_owned())
+                (Place::Tail, "refused after the last chunk that can be read".to_owned())
             }
             _ => (Place::Header, "refused before the first fragment".to_owned()),
         };
     };
-    let number = fragment.number;
     let read = row.read.iter().find(|read| read.number == number);
     let start = read.map(|read| read.start).or(row.judged.last().copied());
     match start {
         Some(start) => {
-            let place = Place::Fragment { start, end: read.map(|read| read.end) };
-            (place, format!("fragment {number} is refused"))
+            let place = Place::Chunk { start, end: read.map(|read| read.end) };
+            (place, format!("{chunk} is refused"))
         }
-        None => (Place::Header, format!("fragment {number} is refused; its time can't be read")),
+        None => (Place::Header, format!("{chunk} is refused; its time can't be read")),
     }
 }

@@ -93,6 +93,7 @@ fn facts(rows: &[words::Row]) -> String {
 
 fn figure(rows: &[Row], mark: Option<&Mark>, refused: bool) -> String {
     let judged = rows.iter().any(|row| !row.judged.is_empty());
+    let parted = rows.iter().any(|row| row.parts.len() > row.judged.len());
     let unjudged = rows.iter().any(|row| !row.read.is_empty());
     let heading = if refused { "Where it breaks" } else { "Boundaries over time" };
     let mut about = match mark {
@@ -111,14 +112,18 @@ fn figure(rows: &[Row], mark: Option<&Mark>, refused: bool) -> String {
     if judged {
         entry("judged", "fragments that the library accepts");
     }
+    if parted {
+        entry("judged parted", "in several chunks");
+    }
     if unjudged {
-        entry("read", "fragments as the bytes have them, not judged");
+        entry("read", "chunks as the bytes have them, not judged");
     }
     if mark.is_some() {
         entry("refused", "where the refusal is");
     }
     if picture.thinned {
-        legend += "<span>Some boundaries are too near to each other for a line each.</span>";
+        legend +=
+            "<span>Some boundaries or chunks are too near to each other for a line each.</span>";
     }
     format!(
         "<section>\n<h2>{heading}</h2>\n<figure>\n{}<figcaption>{legend}</figcaption>\n</figure>\n</section>\n",

@@ -20,6 +20,8 @@ const NAME: usize = 23;
 const TOP: f64 = 34.0;
 /// Lines nearer to each other than this can't be told apart.
 const NEAREST: f64 = 2.5;
+/// Lines between chunks keep this distance, so that the bar is still seen.
+const NEAREST_PART: f64 = 4.0;
 
 const PATTERNS: &str = r#"<defs>
 <pattern id="hatch" width="6" height="6" patternUnits="userSpaceOnUse" patternTransform="rotate(45)">
@@ -54,7 +56,12 @@ pub fn picture(rows: &[Row], mark: Option<&Mark>, about: &str) -> Picture {
         name(&mut svg, nth, row, line, refused);
         let class = if refused { "says refused-text" } else { "says" };
         let cross = if refused { "✕ " } else { "" };
-        svg.text(class, AFTER, line.y + 4.0, Anchor::Start, &format!("{cross}{}", row.says));
+        let above = if row.chunks.is_some() { 6.0 } else { 0.0 };
+        let says = format!("{cross}{}", row.says);
+        svg.text(class, AFTER, line.y + 4.0 - above, Anchor::Start, &says);
+        if let Some(chunks) = &row.chunks {
+            svg.text("axis small", AFTER, line.y + 9.0, Anchor::Start, chunks);
+        }
         match &scale {
             Some(scale) if !row.is_empty() => {
                 thinned |= bars(&mut svg, row, scale, line);
@@ -134,11 +141,11 @@ fn extent(rows: &[Row], mark: Option<&Mark>) -> Option<Scale> {
     let near = read().filter(|(start, end)| first - start <= reach && end - last <= reach);
     let (mut from, mut to) =
         near.fold((first, last), |(from, to), (start, end)| (from.min(start), to.max(end)));
-    if let Some(Mark { row, place: Place::Fragment { start, end: None }, .. }) = mark {
-        // Room for a fragment whose end can't be read.
+    if let Some(Mark { row, place: Place::Chunk { start, end: None }, .. }) = mark {
+        // Room for a chunk whose end can't be read.
         let row = &rows[*row];
         let start = ticks(row, *start);
-        let length = row.length_before(u64::MAX).map_or(0, |length| ticks(row, length));
+        let length = row.chunk_before(u64::MAX).map_or(0, |length| ticks(row, length));
         from = from.min(start);
         to = to.max(start + length);
     }
@@ -157,8 +164,9 @@ fn axis(svg: &mut Svg, scale: &Scale, bottom: f64) {
     }
 }
 
-/// A track's fragments: judged ones as one bar, unjudged ones as others, a line at each boundary.
-/// Answers whether judged boundaries have no line, as it could not be told from the one before.
+/// A track's fragments: judged ones as one bar, unjudged chunks as others, a dark line at each
+/// boundary and a light one between the chunks of a fragment. Answers whether some judged ones have
+/// no line, as it could not be told from the one before.
 pub fn bars(svg: &mut Svg, row: &Row, scale: &Scale, line: Line) -> bool {
     let x = |ticks: u64| scale.x(row.at(ticks));
     let mut bar = |class: &str, start: u64, end: u64| {
@@ -174,17 +182,38 @@ pub fn bars(svg: &mut Svg, row: &Row, scale: &Scale, line: Line) -> bool {
     for (start, end) in joined(&row.read) {
         bar("read", start, end);
     }
-    let mut ends: Vec<u64> = row.read.iter().flat_map(|read| [read.start, read.end]).collect();
-    ends.dedup();
-    let read = inside(ends.into_iter().map(x), scale);
-    let judged = inside(row.judged.iter().copied().map(x), scale);
-    let shown = apart(&judged);
-    svg.verticals("boundary unjudged", &apart(&read), (line.top(), line.bottom()));
+    let (begun, continued) = unjudged_edges(row);
+    let begun = inside(begun.into_iter().map(x), scale);
+    let continued = inside(continued.into_iter().map(x), scale);
+    let boundaries = &row.judged[..row.judged.len() - usize::from(row.open)];
+    let judged = inside(boundaries.iter().copied().map(x), scale);
+    let between = row.parts.iter().filter(|part| boundaries.binary_search(part).is_err());
+    let between = inside(between.copied().map(x), scale);
+    let (shown, shown_parts) = (apart(&judged, NEAREST), apart(&between, NEAREST_PART));
+    svg.verticals("part", &shown_parts, (line.top(), line.bottom()));
+    svg.verticals("part unjudged", &apart(&continued, NEAREST_PART), (line.top(), line.bottom()));
+    svg.verticals("boundary unjudged", &apart(&begun, NEAREST), (line.top(), line.bottom()));
     svg.verticals("boundary", &shown, (line.top() - 2.0, line.bottom() + 2.0));
-    shown.len() < judged.len()
+    shown.len() < judged.len() || shown_parts.len() < between.len()
 }
 
-/// Fragments that follow each other without a gap, as one stretch.
+/// Where unjudged chunks start and end: first where a fragment may begin or stop, then where a chunk
+/// goes on with the one before.
+fn unjudged_edges(row: &Row) -> (Vec<u64>, Vec<u64>) {
+    let (mut begun, mut continued) = (Vec::new(), Vec::new());
+    let mut before = None;
+    for read in &row.read {
+        let continues = read.fragment.is_some() && !read.begins;
+        let edges = if continues { &mut continued } else { &mut begun };
+        edges.extend(before.filter(|end| *end != read.start));
+        edges.push(read.start);
+        before = Some(read.end);
+    }
+    begun.extend(before);
+    (begun, continued)
+}
+
+/// Chunks that follow each other without a gap, as one stretch.
 fn joined(read: &[Read]) -> Vec<(u64, u64)> {
     let mut stretches: Vec<(u64, u64)> = Vec::new();
     for one in read {
@@ -200,18 +229,18 @@ fn inside(xs: impl Iterator<Item = f64>, scale: &Scale) -> Vec<f64> {
     xs.filter(|x| (scale.left - 0.01..=scale.right() + 0.01).contains(x)).collect()
 }
 
-/// Places that can be told apart.
-fn apart(xs: &[f64]) -> Vec<f64> {
+/// Places that are so far from each other.
+fn apart(xs: &[f64], nearest: f64) -> Vec<f64> {
     let mut shown: Vec<f64> = Vec::new();
     for x in xs {
-        if shown.last().is_none_or(|last| (x - last).abs() >= NEAREST) {
+        if shown.last().is_none_or(|last| (x - last).abs() >= nearest) {
             shown.push(*x);
         }
     }
     shown
 }
 
-/// An arrow at the edge stands for fragments beyond it.
+/// An arrow at the edge stands for chunks beyond it.
 fn arrows(svg: &mut Svg, row: &Row, scale: &Scale, line: Line) {
     let mut arrow = |edge: f64, tip: f64| {
         svg.polygon("beyond", &[(edge, line.y - 5.0), (tip, line.y), (edge, line.y + 5.0)]);
@@ -228,7 +257,7 @@ fn arrows(svg: &mut Svg, row: &Row, scale: &Scale, line: Line) {
 /// The number of each fragment, where there is room for all of them.
 fn numbers(svg: &mut Svg, row: &Row, scale: &Scale, line: Line) {
     let judged = (0_u64..).zip(row.judged.windows(2)).map(|(nth, ends)| (nth, ends[0], ends[1]));
-    let read = row.read.iter().map(|read| (read.number, read.start, read.end));
+    let read = fragments(row);
     let x = |ticks: u64| scale.x(row.at(ticks));
     let fits = |(number, start, end): &(u64, u64, u64)| {
         x(*end) - x(*start) >= width(&number.to_string()) + 8.0
@@ -244,6 +273,21 @@ fn numbers(svg: &mut Svg, row: &Row, scale: &Scale, line: Line) {
         let middle = (x(start) + x(end)) / 2.0;
         svg.text("fragment", middle, line.y + 3.5, Anchor::Middle, &number.to_string());
     }
+}
+
+/// Number, start and end of each fragment that begins with an unjudged chunk, as far as its chunks
+/// follow each other.
+fn fragments(row: &Row) -> Vec<(u64, u64, u64)> {
+    let mut found: Vec<(u64, u64, u64)> = Vec::new();
+    for one in &row.read {
+        let Some(number) = one.fragment else { continue };
+        match found.last_mut() {
+            _ if one.begins => found.push((number, one.start, one.end)),
+            Some((_, _, end)) if *end == one.start => *end = one.end,
+            _ => (),
+        }
+    }
+    found
 }
 
 /// Points to the place where the tracks part; answers where the picture ends.
@@ -270,7 +314,7 @@ fn point(
         return bottom + 38.0;
     };
     svg.rect("refused", ends, line.top() - 3.0, line.height + 6.0);
-    // A tick is compared with the other tracks', a fragment is not.
+    // A tick is compared with the other tracks', a chunk is not.
     let across = matches!(mark.place, Place::Ticks { .. });
     svg.vertical("pointer", x, (if across { TOP - 6.0 } else { line.bottom() + 3.0 }, below));
     let (anchor, aside) = match (x - LEFT) / PLOT {
@@ -294,7 +338,7 @@ fn stretch(row: &Row, mark: &Mark, scale: &Scale) -> Option<(f64, (f64, f64))> {
     };
     match mark.place {
         Place::Header => None,
-        Place::Fragment { start, end } => {
+        Place::Chunk { start, end } => {
             let ends = wide((x(start), x(end.unwrap_or_else(|| guessed_end(row, start)))));
             Some(((ends.0 + ends.1) / 2.0, ends))
         }
@@ -309,7 +353,7 @@ fn stretch(row: &Row, mark: &Mark, scale: &Scale) -> Option<(f64, (f64, f64))> {
     }
 }
 
-/// A fragment whose end can't be read is drawn as long as the one before.
+/// A chunk whose end can't be read is drawn as long as the one before.
 pub fn guessed_end(row: &Row, start: u64) -> u64 {
-    start.saturating_add(row.length_before(start).unwrap_or(row.timescale))
+    start.saturating_add(row.chunk_before(start).unwrap_or(row.timescale))
 }

@@ -1,13 +1,12 @@
-//! What is drawn of each track: the boundaries of the fragments that the track job accepts, then
-//! what the bytes say of the fragments after them.
+//! What is drawn of each track: the boundaries of the fragments that the track job accepts, with
+//! the chunks inside them, then what the bytes say of the chunks after those.
 
 use super::scale::Moment;
+use crate::chunks::{chunks, Chunk};
 use crate::facts::{Set, Track};
 use crate::found;
 use crate::judge;
 use crate::place::spot;
-use crate::samples::runs;
-use crate::view::View;
 
 pub struct Row<'a> {
     pub name: &'a str,
@@ -15,18 +14,27 @@ pub struct Row<'a> {
     pub label: &'a str,
     /// Not 0 where anything is drawn.
     pub timescale: u64,
-    /// One more than there are fragments before the refused one; all of them in a good track.
+    /// The starts of the fragments before the refused chunk, and where the last of them ends there;
+    /// all of them in a good track.
     pub judged: Vec<u64>,
-    /// The fragments after those, by the bytes alone.
+    /// Where the chunks of those fragments start, and the last one ends.
+    pub parts: Vec<u64>,
+    /// Whether the last of those fragments goes on in the refused chunk.
+    pub open: bool,
+    /// The chunks after those, by the bytes alone.
     pub read: Vec<Read>,
-    /// What is said at its end.
+    /// What is said at its end, and below it of a track with several chunks in a fragment.
     pub says: String,
+    pub chunks: Option<String>,
 }
 
-/// A fragment as its bytes have it. Nothing says that they are right.
+/// A chunk as its bytes have it. Nothing says that they are right.
 #[derive(Clone, Copy, Debug, PartialEq, Eq)]
 pub struct Read {
     pub number: u64,
+    /// Where it is known.
+    pub fragment: Option<u64>,
+    pub begins: bool,
     pub start: u64,
     pub end: u64,
 }
@@ -43,20 +51,47 @@ pub fn rows<'a>(set: &'a Set, tracks: &[Track]) -> Vec<Row<'a>> {
 
 impl<'a> Row<'a> {
     fn empty(name: &'a str, label: &'a str) -> Row<'a> {
-        let says = "not looked at".to_owned();
-        Row { name, label, timescale: 0, judged: vec![], read: vec![], says }
+        Row {
+            name,
+            label,
+            timescale: 0,
+            judged: vec![],
+            parts: vec![],
+            open: false,
+            read: vec![],
+            says: "not looked at".to_owned(),
+            chunks: None,
+        }
     }
 
     fn of(name: &'a str, label: &'a str, track: &Track) -> Row<'a> {
         let verdict = &track.alone.verdict;
         let timescale = found::timescale(track.view()).unwrap_or(0);
-        let judged = front(track);
+        let Front { judged, cut } = front(track);
+        let all = chunks(track);
+        let before = all.iter().take_while(|chunk| !judged.is_empty() && chunk.moof < cut);
+        let before = before.count();
+        let starts = all[..before].iter().filter_map(|chunk| chunk.times).map(|(start, _)| start);
+        let parts = starts.chain(judged.last().copied()).collect();
+        let open = before > 0 && all.get(before).is_some_and(|next| next.continues());
         let says = match (verdict.number, verdict.count) {
             (0, count) => found::many(count, "fragment"),
             (number, _) => format!("refused {number}"),
         };
-        let read = if timescale == 0 { vec![] } else { after(track, judged.len()) };
-        Row { name, label, timescale, judged, read, says }
+        let number = all.len() as u64;
+        let several = verdict.is_accepted() && number != verdict.count;
+        let read = if timescale == 0 { vec![] } else { after(&all[before..]) };
+        Row {
+            name,
+            label,
+            timescale,
+            judged,
+            parts,
+            open,
+            read,
+            says,
+            chunks: several.then(|| found::many(number, "chunk")),
+        }
     }
 
     pub fn is_empty(&self) -> bool {
@@ -68,50 +103,51 @@ impl<'a> Row<'a> {
     }
 
     /// The length of the fragment before a tick, to guess by how far to look around it.
-    pub fn length_before(&self, ticks: u64) -> Option<u64> {
-        let nth = self.judged.partition_point(|boundary| *boundary < ticks);
-        let nth = nth.clamp(1, self.judged.len().checked_sub(1)?.max(1));
-        Some(self.judged.get(nth)? - self.judged[nth - 1])
+    pub fn fragment_before(&self, ticks: u64) -> Option<u64> {
+        length_before(&self.judged, ticks)
+    }
+
+    /// The length of the chunk before a tick, to guess that of one whose end can't be read.
+    pub fn chunk_before(&self, ticks: u64) -> Option<u64> {
+        length_before(&self.parts, ticks)
     }
 }
 
-/// The boundaries by the track job: of the whole track, else of the bytes before the refused
-/// fragment.
-fn front(track: &Track) -> Vec<u64> {
+fn length_before(edges: &[u64], ticks: u64) -> Option<u64> {
+    let nth = edges.partition_point(|edge| *edge < ticks);
+    let nth = nth.clamp(1, edges.len().checked_sub(1)?.max(1));
+    Some(edges.get(nth)? - edges[nth - 1])
+}
+
+/// What the track job accepts: all of the track, else the bytes before the refused chunk.
+struct Front {
+    judged: Vec<u64>,
+    /// Where the bytes end that it judged.
+    cut: u64,
+}
+
+fn front(track: &Track) -> Front {
     let verdict = &track.alone.verdict;
     if verdict.is_accepted() {
-        return track.alone.boundaries.clone();
+        return Front { judged: track.alone.boundaries.clone(), cut: track.bytes.len() as u64 };
     }
     let view = track.view();
     let top = view.at(verdict.place).map(|nth| view.boxes[view.top(nth)].offset);
-    let moof = spot(view, verdict.place).fragment.map(|(_, moof)| moof);
+    let moof = spot(view, verdict.place).chunk.map(|(_, moof)| moof);
     let cut = moof.or(top).unwrap_or(verdict.place);
     let before = usize::try_from(cut).ok().and_then(|cut| track.bytes.get(..cut));
-    before.map_or(vec![], |bytes| judge::track(bytes).boundaries)
+    let judged = before.map_or(vec![], |bytes| judge::track(bytes).boundaries);
+    Front { judged, cut }
 }
 
-/// The fragments behind so many boundaries, where their times can be read.
-fn after(track: &Track, boundaries: usize) -> Vec<Read> {
-    let view = track.view();
-    let verdict = &track.alone.verdict;
-    let refused = spot(view, verdict.place).fragment.map(|(number, _)| number);
-    // 14 and 15: boxes that are missing, doubled or misshapen tell no time.
-    let told = |number: &u64| !(matches!(verdict.number, 14 | 15) && refused == Some(*number));
-    let moofs = view.inside(None).filter(|nth| view.boxes[*nth].kind == *b"moof");
-    let numbered = (0..).zip(moofs).skip(boundaries.saturating_sub(1));
-    let read = numbered.filter(|(number, _)| told(number)).filter_map(|(number, moof)| {
-        let (start, end) = times(view, moof)?;
-        Some(Read { number, start, end })
+/// Chunks behind the front, where their times can be read.
+fn after(chunks: &[Chunk]) -> Vec<Read> {
+    let read = chunks.iter().filter_map(|chunk| {
+        let Chunk { number, fragment, begins, times, .. } = *chunk;
+        let (start, end) = times?;
+        Some(Read { number, fragment, begins, start, end })
     });
     read.collect()
-}
-
-/// Start and end of a fragment: its `tfdt`, and that plus the durations.
-fn times(view: View, moof: usize) -> Option<(u64, u64)> {
-    let traf = view.child(Some(moof), b"traf")?;
-    let start = view.body(view.child(Some(traf), b"tfdt")?).decode_time()?;
-    let end = runs(view, moof)?.iter().try_fold(start, |at, run| at.checked_add(run.duration))?;
-    Some((start, end))
 }
 
 /// The length of the folders that all names begin with.

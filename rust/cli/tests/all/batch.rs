@@ -13,8 +13,8 @@ fn lines(ran: &Ran) -> Vec<Value> {
 fn folder(name: &str) -> Folder {
     let folder = Folder::new(name);
     folder.put("a.mp4", &track_t(2, |_| ()));
-    folder.put("b c.mp4", &track_t(2, |track| track.fragments[1].runs[0].samples[1].duration += 1));
-    folder.put("bad.mp4", &track_t(2, |track| track.fragments[1].start += 1));
+    folder.put("b c.mp4", &track_t(2, |track| track.chunks[1].runs[0].samples[1].duration += 1));
+    folder.put("bad.mp4", &track_t(2, |track| track.chunks[1].start += 1));
     folder
 }
 

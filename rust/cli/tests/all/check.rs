@@ -77,15 +77,114 @@ refused 19 track 0 at 2419
 
   file      bad-time-plus-one-0.mp4
   box       moof[1]/traf/tfdt at byte 2419, size 20
-  fragment  1 (the first is 0), at 1.000000 s
+  chunk     1 (the first is 0), at 1.000000 s, the first of fragment 1
   found     decode time 90001 (1.000011 s)
-  expected  decode time 90000 (1.000000 s), where the fragment before ended
+  expected  decode time 90000 (1.000000 s), where the chunk before ended
 
 19. ";
     assert!(ran.out.starts_with(expected), "{}", ran.out);
     for label in ["  Means: ", "  Usual cause: ", "  What to do: "] {
         assert!(ran.out.contains(label), "{label}");
     }
+}
+
+/// Fragments of several chunks: one list of boundaries, whatever the chunks.
+#[test]
+fn a_low_latency_ladder_is_accepted() {
+    let folder = Folder::new("a_low_latency_ladder_is_accepted");
+    let names = folder.unpack("good-low-latency");
+    let ran = run(&folder, &with_names(&["check"], &names));
+    assert_eq!((ran.status, ran.err.as_str()), (0, ""));
+    let expected = "\
+accepted tracks 3 fragments 2 timescale 90000
+
+  file      good-low-latency-0.mp4
+  file      good-low-latency-1.mp4
+  file      good-low-latency-2.mp4
+  time      0.000000 s to 4.000000 s
+  chunks    8, 8, 100
+
+Boundaries, in ticks and seconds:
+           0  0.000000 s
+      180000  2.000000 s
+      360000  4.000000 s
+";
+    assert_eq!(ran.out, expected);
+
+    let object = run(&folder, &with_names(&["check", "--each", "--json"], &names)).json();
+    assert_eq!(
+        (&object["boundaries"], object.get("chunks")),
+        (&json!([0, 180_000, 360_000]), None)
+    );
+    let halves = json!([[0, 46_800, 93_600, 140_400], [180_000, 226_800, 273_600, 320_400]]);
+    assert_eq!((&object["each"][0]["chunks"], &object["each"][1]["chunks"]), (&halves, &halves));
+    let pictures = &object["each"][2]["chunks"];
+    let lengths: Vec<_> = (0..2).map(|nth| pictures[nth].as_array().unwrap().len()).collect();
+    assert_eq!((lengths, &pictures[1][1]), (vec![50, 50], &json!(183_600)));
+    let object = run(&folder, &["check", "--json", &names[0]]).json();
+    assert_eq!((&object["chunks"], &object["fragments"]), (&halves, &json!(2)));
+}
+
+/// A chunk inside a fragment, and a fragment that begins a chunk late.
+#[test]
+fn chunks_and_fragments_are_told_apart() {
+    let folder = Folder::new("chunks_and_fragments_are_told_apart");
+    let names = folder.unpack("bad-chunk-plus-one");
+    let ran = run(&folder, &with_names(&["check"], &names));
+    let expected = "\
+refused 19 track 0 at 3580
+
+  file      bad-chunk-plus-one-0.mp4
+  box       moof[5]/traf/tfdt at byte 3580, size 20
+  chunk     5 (the first is 0), at 2.520000 s, in fragment 1
+  found     decode time 226801 (2.520011 s)
+  expected  decode time 226800 (2.520000 s), where the chunk before ended
+";
+    assert!(ran.out.starts_with(expected), "{}", ran.out);
+    let refusal = run(&folder, &with_names(&["check", "--json"], &names)).json()["refusal"].take();
+    let part = |number: u64, start: u64, seconds: f64| -> Value {
+        json!({"number": number, "start": start, "timescale": 90_000, "seconds": seconds})
+    };
+    assert_eq!(refusal["chunk"], part(5, 226_800, 2.52));
+    assert_eq!(refusal["fragment"], part(1, 180_000, 2.0));
+
+    let names = folder.unpack("bad-low-latency-moved");
+    let object = run(&folder, &with_names(&["check", "--json"], &names)).json();
+    let refusal = &object["refusal"];
+    assert_eq!((&object["number"], &refusal["box"]["path"]), (&json!(28), &json!("moof[5]")));
+    assert_eq!(refusal["chunk"], part(5, 226_800, 2.52));
+    assert_eq!(refusal["fragment"], part(1, 226_800, 2.52));
+    assert_eq!(refusal["found"]["number"], 226_800);
+
+    let names = folder.unpack("bad-low-latency-by-time");
+    let ran = run(&folder, &with_names(&["check"], &names));
+    let words = "found     1 fragment in 8 chunks\n  expected  2 fragments as in track 0\n";
+    assert!(ran.out.contains(words), "{}", ran.out);
+}
+
+/// Only the track's first chunk must begin with a sync sample; others go on with their fragment.
+#[test]
+fn a_track_begins_with_a_sync_sample() {
+    let folder = Folder::new("a_track_begins_with_a_sync_sample");
+    let non_sync = |nth: usize| {
+        track_t(3, |track| {
+            track.chunks[nth].runs[0].flags |= 0x4;
+            track.chunks[nth].runs[0].first_sample_flags = 0x1_0000;
+        })
+    };
+    folder.put("first.mp4", &non_sync(0));
+    folder.put("later.mp4", &non_sync(1));
+    let ran = run(&folder, &["check", "first.mp4"]);
+    assert!(ran.first_line().starts_with("refused 21 track 0 at "), "{}", ran.out);
+    let words = "  chunk     0 (the first is 0), at 0.000000 s, the first of fragment 0\n  \
+                 found     flags 0x00010000 of the track's first sample, by the first-sample flags";
+    assert!(ran.out.contains(words), "{}", ran.out);
+    let ran = run(&folder, &["check", "later.mp4"]);
+    assert_eq!(
+        (ran.status, ran.first_line()),
+        (0, "accepted tracks 1 fragments 2 timescale 90000")
+    );
+    assert!(ran.out.contains("  chunks    3\n"), "{}", ran.out);
 }
 
 /// What stands in the refused track and in track 0.
@@ -186,8 +285,8 @@ fn the_last_tick_survives() {
     let folder = Folder::new("the_last_tick_survives");
     let late = |beyond: u64| {
         track_t(1, |track| {
-            track.fragments[0].wide_tfdt = true;
-            track.fragments[0].start = (1 << 63) - 1 - 180_000 + beyond;
+            track.chunks[0].wide_tfdt = true;
+            track.chunks[0].start = (1 << 63) - 1 - 180_000 + beyond;
         })
     };
     folder.put("last.mp4", &late(0));

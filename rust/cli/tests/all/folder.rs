@@ -71,9 +71,9 @@ pub fn tracks(bundle: &[u8]) -> Vec<Vec<u8>> {
     tracks
 }
 
-/// Track T of document 01 with so many fragments, changed.
-pub fn track_t(fragments: u64, change: impl FnOnce(&mut Track)) -> Vec<u8> {
-    let mut track = Track::example(fragments);
+/// Track T of document 01 with so many chunks, each a fragment unless it is changed.
+pub fn track_t(chunks: u64, change: impl FnOnce(&mut Track)) -> Vec<u8> {
+    let mut track = Track::example(chunks);
     change(&mut track);
     node::bytes(&track.boxes(&mut Fill::Zeros))
 }

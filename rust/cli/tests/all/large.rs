@@ -17,7 +17,7 @@ fn sparse(folder: &Folder, name: &str, start: &[u8], length: u64) {
 /// T with one fragment and a last sample so large that the track has this length.
 fn long_track(length: u64) -> Vec<u8> {
     let size = |last: u32| {
-        let mut bytes = track_t(1, |track| track.fragments[0].runs[0].samples[1].size = last);
+        let mut bytes = track_t(1, |track| track.chunks[0].runs[0].samples[1].size = last);
         let length = bytes.len() as u64;
         bytes.truncate(2048);
         (bytes, length)

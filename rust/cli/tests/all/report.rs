@@ -96,8 +96,8 @@ fn a_time_that_does_not_continue() {
     let folder = Folder::new("report_19");
     let at = |start: u64, words: &str, beyond: usize| {
         let late = |track: &mut Track| {
-            track.fragments[1].start = start;
-            track.fragments[1].wide_tfdt = true;
+            track.chunks[1].start = start;
+            track.chunks[1].wide_tfdt = true;
         };
         folder.put("a.mp4", &track_t(3, late));
         let place = run(&folder, &["check", "a.mp4"]).first_line().to_owned();
@@ -109,20 +109,20 @@ fn a_time_that_does_not_continue() {
         assert!(page.contains("moof[1]/traf/tfdt</code></td><td>◀ refused 19</td>"));
         stretches(&page, "refused").len()
     };
-    assert_eq!(at(180_001, "fragment 1 starts 1 tick late (0.000011 s): a gap", 0), 2);
-    assert_eq!(at(90_000, "fragment 1 starts 90000 ticks early (1.000000 s): an overlap", 0), 2);
-    let far = "fragment 1 starts 9223372036854595807 ticks late (102481911520606.620078 s): a gap";
+    assert_eq!(at(180_001, "chunk 1 starts 1 tick late (0.000011 s): a gap", 0), 2);
+    assert_eq!(at(90_000, "chunk 1 starts 90000 ticks early (1.000000 s): an overlap", 0), 2);
+    let far = "chunk 1 starts 9223372036854595807 ticks late (102481911520606.620078 s): a gap";
     assert_eq!(at(i64::MAX as u64, far, 1), 2);
 }
 
-/// A refused box in a fragment marks the fragment; one in the header marks the header.
+/// A refused box in a chunk marks the chunk; one in the header marks the header.
 #[test]
-fn the_fragment_or_the_header() {
-    let folder = Folder::new("report_fragment");
+fn the_chunk_or_the_header() {
+    let folder = Folder::new("report_chunk");
     let cases = [
-        ("bad-data-offset", "refused 22 track 0 at 2439", "fragment 1 is refused", (0.25, 0.5)),
-        ("bad-not-sync", "refused 21 track 0 at 2439", "fragment 1 is refused", (0.25, 0.5)),
-        ("bad-open-mdat", "refused 3 track 0 at 4655", "fragment 3 is refused", (0.75, 1.0)),
+        ("bad-data-offset", "refused 22 track 0 at 2439", "chunk 1 is refused", (0.25, 0.5)),
+        ("bad-not-sync", "refused 21 track 0 at 843", "chunk 0 is refused", (0.0, 0.25)),
+        ("bad-open-mdat", "refused 3 track 0 at 4655", "chunk 3 is refused", (0.75, 1.0)),
     ];
     for (sample, line, words, part) in cases {
         let names = folder.unpack(sample);
@@ -138,6 +138,53 @@ fn the_fragment_or_the_header() {
     assert_eq!(marks(&page), ["refused before the first fragment"]);
     assert_eq!((stretches(&page, "refused").len(), stretches(&page, "header").len()), (1, 1));
     assert_eq!(stretches(&page, "panel").len(), 0, "a header has no time to magnify");
+}
+
+/// Where the lines with this class stand, the whole first and the magnified after it.
+fn lines(page: &str, class: &str) -> Vec<Vec<f64>> {
+    let begin = format!("<path class=\"{class}\" d=\"");
+    let paths = page.split(&begin).skip(1);
+    let place = |line: &str| line.split(' ').next().unwrap().parse().unwrap();
+    paths
+        .map(|path| path.split('"').next().unwrap().split('M').skip(1).map(place).collect())
+        .collect()
+}
+
+/// A bar a track from boundary to boundary; light lines between the chunks of a fragment.
+#[test]
+fn chunks_within_fragments() {
+    let folder = Folder::new("report_chunks");
+    let names = folder.unpack("good-low-latency");
+    let good = page(&folder, &names, 0, "accepted tracks 3 fragments 2 timescale 90000");
+    let bars = stretches(&good, "judged");
+    assert_eq!(bars.len(), 3);
+    let (left, right) = bars[0];
+    let [low, mid, high] = &lines(&good, "part")[..] else { panic!("three tracks with chunks") };
+    assert_eq!((low.len(), mid, high.len()), (6, low, 98));
+    assert_near(low[3], left + (right - left) * 226_800.0 / 360_000.0);
+    let boundaries = lines(&good, "boundary");
+    assert_eq!(boundaries.len(), 3);
+    for found in boundaries {
+        assert_eq!(found.len(), 3);
+        assert_near(found[1], (left + right) / 2.0);
+    }
+    assert!(good.contains(">2 fragments</text>") && good.contains(">100 chunks</text>"));
+    assert!(good.contains("</i>in several chunks</span>"));
+    assert!(!good.contains("too near to each other"));
+
+    // The refused chunk goes on with its fragment: no boundary stands before it.
+    let names = folder.unpack("bad-chunk-plus-one");
+    let late = page(&folder, &names, 1, "refused 19 track 0 at 3580");
+    assert_eq!(marks(&late), ["chunk 5 (of fragment 1) starts 1 tick late (0.000011 s): a gap"]);
+    assert_eq!(lines(&late, "boundary")[0].len(), 2);
+    assert_eq!(lines(&late, "part")[0].len(), 4, "three, and the end of what is judged");
+    assert_eq!(lines(&late, "part unjudged")[0].len(), 3);
+
+    let names = folder.unpack("bad-low-latency-moved");
+    let moved = page(&folder, &names, 1, "refused 28 track 1 at 4260");
+    let words = "boundary 1 of track 1 is 46800 ticks late (0.520000 s)";
+    assert_eq!(marks(&moved), [words]);
+    assert!(moved.contains("<td><code>moof[5]</code></td><td>◀ refused 28</td>"));
 }
 
 /// Where nothing can be drawn, the row says so.

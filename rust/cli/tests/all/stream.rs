@@ -97,7 +97,7 @@ refused 19 track 0 at 2419
     assert_eq!((object["bytes"].as_u64(), object.get("first")), (Some(5465), None));
     let refusal = &object["refusal"];
     assert_eq!(refusal["title"], "Decode time does not continue");
-    for field in ["box", "around", "end", "fragment", "found", "expected"] {
+    for field in ["box", "around", "end", "chunk", "fragment", "found", "expected"] {
         assert_eq!(refusal.get(field), None, "{field}");
     }
 
@@ -111,10 +111,10 @@ refused 19 track 0 at 2419
     assert!(ran.out.contains("check --bundle"), "{}", ran.out);
 }
 
-/// T whose first fragment has so many samples, each with a duration and a size.
+/// T whose first chunk has so many samples, each with a duration and a size.
 fn samples_in_a_table(count: u32) -> Vec<u8> {
     track_t(1, |track| {
-        let run = &mut track.fragments[0].runs[0];
+        let run = &mut track.chunks[0].runs[0];
         run.count = count;
         run.samples = vec![Sample { duration: 1, size: 1, ..Sample::default() }; count as usize];
     })
@@ -167,7 +167,7 @@ fn a_slow_writer() {
 
 /// T with one fragment whose last sample is so large that the track has this length; its front.
 fn long_track(length: usize) -> Vec<u8> {
-    let made = |last: u32| track_t(1, |track| track.fragments[0].runs[0].samples[1].size = last);
+    let made = |last: u32| track_t(1, |track| track.chunks[0].runs[0].samples[1].size = last);
     let least = made(0).len();
     let mut track = made(1);
     // The sizes of `mdat` and of the last sample; zeros follow the front.

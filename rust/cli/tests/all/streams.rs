@@ -19,7 +19,7 @@ fn a_closed_pipe() {
             let mut child = command(&folder, &[word, "-"]).stdin(Stdio::piped()).spawn().unwrap();
             // Closed before it has read what it answers about.
             drop(child.stdout.take());
-            let bytes = track_t(fragments, |track| track.fragments[1].start += shift);
+            let bytes = track_t(fragments, |track| track.chunks[1].start += shift);
             child.stdin.take().unwrap().write_all(&bytes).unwrap();
             let ran = Ran::of(child.wait_with_output().unwrap());
             assert_eq!((ran.status, ran.err.as_str()), (status, ""), "{word}");

@@ -1,7 +1,7 @@
 //! Rules 7 and 14.
 
 use super::some_of;
-use crate::layout::{steps, steps_in_fragment, Container};
+use crate::layout::{steps, steps_in_chunk, Container};
 use crate::layout::{CONTAINERS, HEADER_CONTAINERS, MEDIA_HEADERS};
 use crate::node::{self, Kind, Node, Step};
 use crate::rng::Rng;
@@ -22,12 +22,12 @@ pub fn header(boxes: &mut Vec<Node>, rng: &mut Rng) -> u64 {
     place.expect("some container is there")
 }
 
-/// Rule 14: boxes of a fragment missing, or too many.
-pub fn fragment(boxes: &mut Vec<Node>, nth: usize, rng: &mut Rng) -> u64 {
+/// Rule 14: boxes of a chunk missing, or too many.
+pub fn chunk(boxes: &mut Vec<Node>, nth: usize, rng: &mut Rng) -> u64 {
     let containers = &CONTAINERS[HEADER_CONTAINERS..];
     let mut place = 0;
     for rank in some_of(containers.len(), rng) {
-        let path = steps_in_fragment(containers[rank].path, nth);
+        let path = steps_in_chunk(containers[rank].path, nth);
         place = miscount(boxes, &containers[rank], &path, rng);
     }
     place

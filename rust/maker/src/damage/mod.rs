@@ -1,8 +1,8 @@
 //! Damage that breaks known rules and leaves the rest as it was, so that the
 //! number and the place of the refusal are known.
 
+mod chunk;
 mod counts;
-mod fragment;
 pub mod framing;
 mod header;
 mod order;
@@ -24,25 +24,31 @@ pub struct Damaged {
 }
 
 /// A track of this plan that is refused with this number. It may break rules
-/// of higher numbers too.
+/// of higher numbers too, and any rule of chunks in a later one.
 pub fn aimed(number: u64, plan: &Plan, rng: &mut Rng) -> Damaged {
     let numbers = with_later_ones(number, rng);
-    // Rule 19 is for later fragments, and all damage to fragments is done to one.
+    // Rule 19 is for later chunks, and all damage to chunks is done to one.
     let first = usize::from(numbers.contains(&19));
-    let mut plan = plan.clone();
-    while plan.fragments() <= first {
-        plan = Plan::draw(rng);
+    let mut track = draw::track(plan, rng);
+    while track.chunks.len() <= first {
+        track = draw::track(&Plan::draw(rng), rng);
     }
-    let mut track = draw::track(&plan, rng);
-    let nth = first + rng.index(plan.fragments() - first);
+    // Rule 21 is for the first chunk alone.
+    let nth = if number == 21 { 0 } else { first + rng.index(track.chunks.len() - first) };
 
     // Highest numbers first: what a later rule looks at is still whole when
     // its turn comes, and the lowest number has the last word on the place.
     let mut told = None;
     for number in &numbers {
-        told = fragment::tell(*number, &mut track, nth, rng).or(told);
+        told = chunk::tell(*number, &mut track, nth, rng).or(told);
     }
     let mut boxes = dressed(&track, rng);
+    let later = nth + 1..track.chunks.len();
+    if !later.is_empty() && rng.chance(30) {
+        // Chunk by chunk: what a later one breaks is of no matter.
+        let later = later.start + rng.index(later.len());
+        hurt(rng.pick(&[14, 15, 17, 18]), &mut boxes, &track, later, rng);
+    }
     let mut place = None;
     for number in &numbers {
         place = hurt(*number, &mut boxes, &track, nth, rng).or(place);
@@ -90,11 +96,11 @@ fn hurt(
         9 => header::brands(boxes, rng),
         10..=12 => header::field(number, boxes, rng),
         13 => header::sample_tables(boxes, rng),
-        14 => counts::fragment(boxes, nth, rng),
-        15 => fragment::body(boxes, &track.fragments[nth], nth, rng),
-        17 => fragment::track_id(boxes, nth, rng),
-        18 => fragment::sample_count(boxes, &track.fragments[nth], nth, rng),
-        22 if track.fragments[nth].has_good_offsets() => fragment::data_box(boxes, nth, rng),
+        14 => counts::chunk(boxes, nth, rng),
+        15 => chunk::body(boxes, &track.chunks[nth], nth, rng),
+        17 => chunk::track_id(boxes, nth, rng),
+        18 => chunk::sample_count(boxes, &track.chunks[nth], nth, rng),
+        22 if track.chunks[nth].has_good_offsets() => chunk::data_box(boxes, nth, rng),
         _ => return None,
     })
 }

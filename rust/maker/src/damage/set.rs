@@ -2,9 +2,10 @@
 
 use crate::bundle::{bundle, record, MARK};
 use crate::decorate::good;
-use crate::draw::{Plan, LAST_TICK, PAIRS};
+use crate::draw::{make_sync, Plan, LAST_TICK, PAIRS};
 use crate::node;
 use crate::rng::Rng;
+use crate::track::Track;
 
 /// Rule 24: a bundle that is no run of 1 to 16 records; gives the count of
 /// good records and the place too.
@@ -73,6 +74,35 @@ pub fn differing(number: u64, plan: &Plan, rng: &mut Rng) -> (Plan, usize) {
     (other, boundary)
 }
 
+/// The same chunks as those of a track, one or two of them now with another first sample, so that
+/// they are cut into other fragments: refused beside it with number 27 or 28. Gives the boundary
+/// of 28 too; nothing where the track has too few chunks.
+pub fn regrouped(number: u64, track: &Track, rng: &mut Rng) -> Option<(Track, usize)> {
+    let firsts = track.fragments();
+    let begins = |nth: usize| firsts.contains(&nth);
+    let later = 1..track.chunks.len();
+    // One that begins a fragment, and a neighbour that continues one; for 27 any one will do.
+    let swaps: Vec<(usize, usize)> = match number {
+        27 => later.map(|nth| (nth, nth)).collect(),
+        _ => later
+            .clone()
+            .flat_map(|nth| [(nth, nth - 1), (nth, nth + 1)])
+            .filter(|(nth, other)| later.contains(other) && begins(*nth) && !begins(*other))
+            .collect(),
+    };
+    if swaps.is_empty() {
+        return None;
+    }
+    let (one, other) = rng.pick(&swaps);
+    let mut regrouped = track.clone();
+    make_sync(&mut regrouped.chunks[one], &track.trex, !begins(one), rng);
+    if other != one {
+        make_sync(&mut regrouped.chunks[other], &track.trex, true, rng);
+    }
+    let boundary = firsts.iter().position(|first| *first == one).unwrap_or(0);
+    Some((regrouped, boundary))
+}
+
 fn more_or_fewer(boundaries: &mut Vec<u64>, rng: &mut Rng) {
     let last = boundaries[boundaries.len() - 1];
     if boundaries.len() > 2 && (last == LAST_TICK || rng.chance(50)) {
@@ -94,6 +124,10 @@ fn move_one(boundaries: &mut [u64], rng: &mut Rng) -> usize {
     let at = boundaries[nth];
     let down = at.checked_sub(1).filter(|down| before.is_none_or(|before| *down > before));
     let up = Some(at + 1).filter(|up| *up <= LAST_TICK && after.is_none_or(|after| *up < after));
+    if boundaries[boundaries.len() - 1] < LAST_TICK && rng.chance(30) {
+        boundaries[nth..].iter_mut().for_each(|tick| *tick += 1);
+        return nth;
+    }
     match (down, up) {
         (Some(down), Some(up)) => boundaries[nth] = rng.pick(&[down, up]),
         (Some(tick), None) | (None, Some(tick)) => boundaries[nth] = tick,

@@ -1,6 +1,6 @@
-//! Document 01's examples and both sides of its bounds, each with its answer.
+//! Document 01's examples, request 2's, and both sides of their bounds, each with its answer.
 
-mod fragment;
+mod chunk;
 mod framing;
 mod header;
 mod set;
@@ -21,9 +21,10 @@ pub fn examples() -> Vec<Example> {
     list.smallest();
     list.cut();
     list.track_t();
+    list.track_u();
     list.order();
     list.header();
-    list.fragments();
+    list.chunks();
     list.indexes();
     list.sets();
     list.many_boxes();
@@ -33,6 +34,11 @@ pub fn examples() -> Vec<Example> {
 /// Track T's boxes.
 pub fn track_t() -> Vec<Node> {
     Track::example(2).boxes(&mut Fill::Zeros)
+}
+
+/// Track U's boxes.
+pub fn track_u() -> Vec<Node> {
+    Track::example_u().boxes(&mut Fill::Zeros)
 }
 
 struct List(Vec<Example>);
@@ -92,5 +98,5 @@ fn t_accepted() -> Answer {
 }
 
 fn first_run(track: &mut Track) -> &mut Run {
-    &mut track.fragments[0].runs[0]
+    &mut track.chunks[0].runs[0]
 }

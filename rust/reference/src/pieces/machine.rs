@@ -3,14 +3,14 @@
 //! later box may still break one that is tried before it.
 
 use super::{is_bounded, PiecesAnswer};
-use crate::fragment::DataBox;
+use crate::chunk::DataBox;
 use crate::framing::{Allowance, Boxes, Framed};
 use crate::header::Header;
 use crate::kinds::*;
 use crate::moof::Moof;
 use crate::moov::Moov;
 use crate::verdict::{Refusal, Verdict};
-use crate::{fragment, header, MAX_BOXES, MAX_BYTES, MAX_KEPT};
+use crate::{chunk, header, MAX_BOXES, MAX_BYTES, MAX_KEPT};
 
 /// A track that arrives in pieces.
 #[derive(Default)]
@@ -207,7 +207,7 @@ impl Pieces {
                 let mut moof = Moof::default();
                 // It was framed before.
                 moof.read(framed, Allowance::new())?;
-                self.contents.add_fragment(&moof, &DataBox { at: self.at, header, payload });
+                self.contents.add_chunk(&moof, &DataBox { at: self.at, header, payload });
             }
             _ => (),
         }
@@ -217,13 +217,13 @@ impl Pieces {
     }
 }
 
-/// What header and fragments come to; after the first broken rule of 7 to 22 no more are judged.
+/// What header and chunks come to; after the first broken rule of 7 to 22 no more are judged.
 #[derive(Default)]
 struct Contents {
     header: Option<Header>,
     fragments: usize,
     first: Option<u64>,
-    /// The end of the last fragment.
+    /// The end of the last chunk.
     clock: Option<u64>,
     broken: Option<Refusal>,
 }
@@ -236,19 +236,19 @@ impl Contents {
         }
     }
 
-    fn add_fragment(&mut self, moof: &Moof, mdat: &DataBox) {
+    fn add_chunk(&mut self, moof: &Moof, mdat: &DataBox) {
         let (Some(header), None) = (&self.header, self.broken) else { return };
-        match fragment::check(header, moof, mdat, self.clock) {
-            Ok(span) => {
-                self.fragments += 1;
-                self.first.get_or_insert(span.start);
-                self.clock = Some(span.end);
+        match chunk::check(header, moof, mdat, self.clock) {
+            Ok(chunk) => {
+                self.fragments += usize::from(chunk.is_sync);
+                self.first.get_or_insert(chunk.start);
+                self.clock = Some(chunk.end);
             }
             Err(refusal) => self.broken = Some(refusal),
         }
     }
 
-    /// Framing and order are good, so that a header and a fragment came.
+    /// Framing and order are good, so that a header and a chunk came.
     fn answer(&self) -> Result<PiecesAnswer, Refusal> {
         if let Some(refusal) = self.broken {
             return Err(refusal);

@@ -1,4 +1,4 @@
-//! Document 01's examples, each with tables of several lengths.
+//! Document 01's examples and request 2's, each with tables of several lengths.
 
 use crate::judge::{check_case, judge};
 use maker::cases::Job;
@@ -49,4 +49,18 @@ fn shape_of_t() {
     use maker::node::Node;
     let boxes = maker::examples::track_t();
     assert_eq!(boxes[2..].iter().map(Node::size).collect::<Vec<_>>(), [100, 38, 100, 38]);
+}
+
+/// T's header and T's chunks, each with first-sample flags. In a table of F + 1 numbers
+/// there is no room for a chunk's start.
+#[test]
+fn shape_of_u() {
+    use maker::node::{self, Node};
+    let [t, u] = [maker::examples::track_t(), maker::examples::track_u()];
+    assert_eq!(node::bytes(&t[..2]), node::bytes(&u[..2]));
+    assert_eq!(u[2..].iter().map(Node::size).collect::<Vec<_>>(), [104, 38, 104, 38, 104, 38]);
+    let mut table = [7; 4];
+    let verdict = reference::track(&node::bytes(&u), &mut table[..3]);
+    assert_eq!(verdict, Verdict { count: 2, timescale: 90_000, ..Verdict::default() });
+    assert_eq!(table, [0, 360_000, 540_000, 7]);
 }

@@ -1,11 +1,11 @@
-//! Long tracks: many fragments, and runs of many samples.
+//! Long tracks: many chunks, many fragments, and runs of many samples.
 
 use crate::judge::check_case;
 use maker::bundle::bundle;
 use maker::cases::{Answer, Case, Job};
 use maker::node;
 use maker::rng::Rng;
-use maker::track::{Fill, Run, Sample, Track};
+use maker::track::{Fill, Run, Sample, Track, NON_SYNC};
 
 /// No more fragments fit into 4,096 boxes beside the header.
 const MAX_FRAGMENTS: u64 = 582;
@@ -42,8 +42,8 @@ fn many_boundaries() {
     let right = Track::example(MAX_FRAGMENTS);
     for boundary in LENGTHS {
         let mut track = right.clone();
-        track.fragments[boundary as usize - 1].runs[0].samples[1].duration += 1;
-        if let Some(after) = track.fragments.get_mut(boundary as usize) {
+        track.chunks[boundary as usize - 1].runs[0].samples[1].duration += 1;
+        if let Some(after) = track.chunks.get_mut(boundary as usize) {
             after.start += 1;
             after.runs[0].samples[0].duration -= 1;
         }
@@ -52,6 +52,61 @@ fn many_boundaries() {
         let place = node::place(&boxes, &[(*b"moof", moof)]);
         let set = bundle(&[bytes(&right), bytes(&right), node::bytes(&boxes)]);
         let expected = Answer::refused(28, place).of_track(2);
+        check(&format!("boundary {boundary}"), Job::Set, set, expected);
+    }
+}
+
+/// So many chunks, and as many of them in each fragment as the second number says.
+fn grouped(chunks: u64, together: usize) -> Track {
+    let mut track = Track::example(chunks);
+    for (nth, chunk) in track.chunks.iter_mut().enumerate() {
+        let run = &mut chunk.runs[0];
+        run.flags |= 0x4;
+        run.first_sample_flags = if nth.is_multiple_of(together) { 0 } else { NON_SYNC };
+    }
+    track
+}
+
+/// Fragments of any number of chunks, by themselves and beside others with the same boundaries.
+#[test]
+fn many_chunks() {
+    for chunks in LENGTHS {
+        for together in LENGTHS {
+            let track = grouped(chunks, together as usize);
+            let starts = (0..chunks).step_by(together as usize).map(|nth| nth * 180_000);
+            let boundaries: Vec<u64> = starts.chain([chunks * 180_000]).collect();
+            assert_eq!(track.boundaries(), boundaries);
+            let expected = Answer::accepted(track.timescale, boundaries);
+            let name = format!("{chunks} chunks, {together} together");
+            check(&name, Job::Track, bytes(&track), expected.clone());
+            check(&name, Job::Set, bundle(&[bytes(&track), bytes(&track)]), expected);
+        }
+    }
+}
+
+/// Rule 28 is placed at the fragment's first `moof`, and at the last one's for the last boundary.
+#[test]
+fn places_among_chunks() {
+    let right = grouped(MAX_FRAGMENTS, 40);
+    let firsts = right.fragments();
+    for boundary in 0..=firsts.len() {
+        let mut track = right.clone();
+        let chunk = firsts.get(boundary).copied().unwrap_or(track.chunks.len());
+        match chunk.checked_sub(1) {
+            Some(before) => track.chunks[before].runs[0].samples[1].duration += 1,
+            None => track.chunks[0].runs[0].samples[0].duration -= 1,
+        }
+        if let Some(after) = track.chunks.get_mut(chunk) {
+            after.start += 1;
+            if chunk > 0 {
+                after.runs[0].samples[0].duration -= 1;
+            }
+        }
+        let boxes = track.boxes(&mut Fill::Zeros);
+        let moof = firsts[boundary.min(firsts.len() - 1)];
+        let place = node::place(&boxes, &[(*b"moof", moof)]);
+        let set = bundle(&[bytes(&right), node::bytes(&boxes)]);
+        let expected = Answer::refused(28, place).of_track(1);
         check(&format!("boundary {boundary}"), Job::Set, set, expected);
     }
 }
@@ -72,7 +127,7 @@ fn many_samples() {
                 composition: rng.u32(),
             };
             let samples: Vec<Sample> = (0..count).map(sample).collect();
-            let run = &mut track.fragments[0].runs[0];
+            let run = &mut track.chunks[0].runs[0];
             let flags = 0x1 | fields;
             *run = Run { flags, count: count as u32, samples, ..run.clone() };
             if fields == 0 {

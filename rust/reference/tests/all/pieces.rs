@@ -2,7 +2,7 @@
 
 use maker::cases::Answer;
 use maker::cuts::{cut, steps};
-use maker::examples::track_t;
+use maker::examples::{examples, track_t, track_u};
 use maker::node::{self, Header, Node};
 use maker::pieces::{declared, draw, large_t, BOUNDED, LIMIT};
 use maker::rng::Rng;
@@ -46,6 +46,7 @@ fn t_accepted() -> Answer {
 #[test]
 fn examples_of_the_paper() {
     check("T", &t(), &t_accepted());
+    check("U", &node::bytes(&track_u()), &Answer::accepted(90_000, vec![0, 360_000, 540_000]));
     refused("no bytes", &[], 6, 0);
     refused("7 bytes", &[0; 7], 2, 0);
     for (size, number) in [(8, 6), (7, 3), (9, 4), (1, 2)] {
@@ -107,7 +108,7 @@ fn boxes_at_the_limit() {
 #[test]
 fn later_faults_win() {
     let mut track = Track::example(2);
-    track.fragments[1].start += 1;
+    track.chunks[1].start += 1;
     let boxes = track.boxes(&mut Fill::Zeros);
     let bad = node::bytes(&boxes);
     let end = bad.len();
@@ -170,16 +171,31 @@ fn longest_track() {
     assert_eq!(pieces_whole(&vec![0; (1 << 30) + 1]), answered(&Answer::refused(1, 0)));
 }
 
-/// T up to any byte, asked after each.
+/// T and U up to any byte, asked after each.
 #[test]
-fn every_start_of_t() {
-    let t = t();
-    let mut form = Pieces::new();
-    for (at, byte) in t.iter().enumerate() {
-        assert_eq!(form.finish(), pieces_whole(&t[..at]), "{at}");
-        form.feed(std::slice::from_ref(byte));
+fn every_start() {
+    for (boxes, boundaries) in
+        [(track_t(), vec![0, 180_000, 360_000]), (track_u(), vec![0, 360_000, 540_000])]
+    {
+        let bytes = node::bytes(&boxes);
+        let mut form = Pieces::new();
+        for (at, byte) in bytes.iter().enumerate() {
+            assert_eq!(form.finish(), pieces_whole(&bytes[..at]), "{at}");
+            form.feed(std::slice::from_ref(byte));
+        }
+        assert_eq!(form.finish(), answered(&Answer::accepted(90_000, boundaries)));
     }
-    assert_eq!(form.finish(), answered(&t_accepted()));
+}
+
+/// The track check's examples are answered alike: none of them breaks rule 29.
+#[test]
+fn examples_of_the_track_check() {
+    for example in examples().iter().filter(|example| example.name.starts_with("track ")) {
+        let expected = example.case.expected.as_ref().unwrap();
+        let whole = pieces_whole(&example.case.bytes);
+        assert_eq!(whole, answered(expected), "{}", example.name);
+        assert_eq!(piece_by_piece(steps(&example.case.bytes, 50)), whole, "{}", example.name);
+    }
 }
 
 /// Drawn cases: as made, and the same however they are cut. Every number but 1 is reached.

@@ -32,12 +32,12 @@ fn all_jobs(bytes: &[u8]) -> [u64; 3] {
 
 #[test]
 fn every_start_of_t() {
-    let one_fragment = node::total_size(&track_t()[..4]);
+    let one_chunk = node::total_size(&track_t()[..4]);
     let t = t();
     for len in 0..t.len() {
         let [index, track, set] = all_jobs(&t[..len]);
         assert!([0, 2, 4].contains(&index), "{index} at {len}");
-        assert!([2, 4, 6].contains(&track) || len == one_fragment, "{track} at {len}");
+        assert!([2, 4, 6].contains(&track) || len == one_chunk, "{track} at {len}");
         assert_eq!(set, 24);
     }
 }

@@ -14,16 +14,18 @@ returns c =
 returns-2 : tie.Need-returns-2
 unfolding stateOf judgedFrom factsFrom spotFrom
 returns-2 c =
-    let e = c .before .before .before .before .before .before in
+    let w = c .before in
+    let e = w .before .before .before .before .before .before in
     let j = e .before .before .before .before .before in
     let k = j .before .before .before in
     rw (
-      low-same _ _ (c .wide6 .ensures),
-      low-same _ _ (c .before .wide5 .ensures),
-      low-same _ _ (c .before .before .wide4 .ensures),
-      low-same _ _ (c .before .before .before .wide3 .ensures),
-      low-same _ _ (c .before .before .before .before .wide2 .ensures),
-      low-same _ _ (c .before .before .before .before .before .wide .ensures),
+      c .of-plain .ensures,
+      low-same _ _ (w .wide6 .ensures),
+      low-same _ _ (w .before .wide5 .ensures),
+      low-same _ _ (w .before .before .wide4 .ensures),
+      low-same _ _ (w .before .before .before .wide3 .ensures),
+      low-same _ _ (w .before .before .before .before .wide2 .ensures),
+      low-same _ _ (w .before .before .before .before .before .wide .ensures),
       e .of-end .ensures,
       e .before .of-start .ensures,
       ← j .j2 .given .1,
@@ -37,4 +39,4 @@ encode-spec =
     (tie.spec
     (λ c κs. search needs) (λ c κs. search needs) (λ c. search needs) (λ c. search needs) (λ c κs. search needs)
     (λ c κs. search needs) (λ c κs. search needs) (λ c κs. search needs) (λ c κs. search needs) (λ c κs. search needs)
-    (λ c κs. search needs) (λ c κs. search needs) returns returns-2)
+    (λ c κs. search needs) (λ c κs. search needs) (λ c κs. search needs) returns returns-2)

@@ -7,11 +7,13 @@ use Rattle.pieces.proofs.state.facts_from.Tie as tie
 returns : tie.Need-returns
 unfolding factsFrom
 returns c =
-    let e = c .before .before .before in
+    let p = c .before .before .before in
+    let e = p .before .before in
     let s = e .before .before .before in
     let h = s .before .before .before in
     let d = h .before .before .before .before .before .before in
     rw (
+      ← p .plain-from .ensures,
       ← e .end-from .ensures,
       ← s .start-from .ensures,
       ← h .low326 .ensures,
@@ -28,5 +30,6 @@ facts-from-spec =
     (tie.spec
     (λ c. search needs) (λ c κs. search needs) (λ c. search needs) (λ c κs. search needs) (λ c. search needs)
     (λ c κs. search needs) (λ c. search needs) (λ c κs. search needs) (λ c. search needs) (λ c κs. search needs)
-    (λ c. search needs) (λ c κs. search needs) (λ c. search needs) (λ c. search needs) (λ c κs. search needs) (λ c. search needs)
-    (λ c. search needs) (λ c κs. search needs) (λ c. search needs) (λ c. search needs) (λ c. search needs) returns)
+    (λ c. search needs) (λ c κs. search needs) (λ c. search needs) (λ c. search needs) (λ c κs. search needs)
+    (λ c. search needs) (λ c. search needs) (λ c κs. search needs) (λ c. search needs) (λ c κs. search needs)
+    (λ c. search needs) (λ c. search needs) (λ c. search needs) returns)

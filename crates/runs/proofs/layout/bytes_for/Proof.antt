@@ -1,6 +1,6 @@
 -- `runs::layout::bytes_for` meets its contract. Assumes nothing.
 use borrow.Author.Needs.{needs}
-use Rattle.rules.specs.Fragment.{bytesFor}
+use Rattle.rules.specs.Chunk.{bytesFor}
 use Rattle.runs.proofs.layout.bytes_for.Statement.{statement}
 use Rattle.runs.proofs.layout.bytes_for.Tie as tie
 

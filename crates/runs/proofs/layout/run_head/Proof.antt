@@ -1,6 +1,6 @@
 -- `runs::layout::run_head` meets its contract. Assumes nothing.
 use borrow.Author.Needs.{needs}
-use Rattle.rules.specs.Fragment.{runHead}
+use Rattle.rules.specs.Chunk.{runHead}
 use Rattle.runs.proofs.layout.run_head.Statement.{statement}
 use Rattle.runs.proofs.layout.run_head.Tie as tie
 

@@ -1,6 +1,6 @@
 -- `runs::layout::stride` meets its contract. Assumes nothing.
 use borrow.Author.Needs.{needs}
-use Rattle.rules.specs.Fragment.{stride}
+use Rattle.rules.specs.Chunk.{stride}
 use Rattle.runs.proofs.layout.stride.Statement.{statement}
 use Rattle.runs.proofs.layout.stride.Tie as tie
 

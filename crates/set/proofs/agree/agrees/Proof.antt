@@ -4,7 +4,6 @@ use borrow.Author.Needs.{needs}
 use denote.Ref.{now}
 use Rattle.rules.specs.Rules.{_then_}
 use Rattle.rules.specs.declared.Rule.{Rule}
-use Rattle.track.proofs.Table.{known-end, known-short}
 use Rattle.set.proofs.Beside.{facts-break, only28, same-count}
 use Rattle.set.proofs.agree.agrees.Statement.{statement}
 use Rattle.set.proofs.agree.agrees.Tie as tie
@@ -16,7 +15,7 @@ same-boundaries-requires c κs =
     let b = n .before .before .before .before .before .before .before in
     let e = c .before .before .first-broken2 .ensures ∙ ap (λ (q : Rule). n .must .result then q) (c .before .before .before .first-broken .ensures) in
     let same = same-count (now (b .args .s0)) (now (b .args .s)) (b .args .f0) (b .args .f) (b .pre .0) (b .pre .1) (n .must .ensures) (m .before .before .before .must2 .ensures) (m .must3 .ensures) e (c .enum-told2 .given .1) in
-    ((known-short _ _ (b .pre .0), known-short _ _ (b .pre .1)), (known-end _ _ (b .pre .0), known-end _ _ (b .pre .1), same))
+    (b .pre .0, b .pre .1, same)
 
 returns : tie.Need-returns
 returns c =

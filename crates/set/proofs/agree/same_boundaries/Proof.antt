@@ -11,16 +11,16 @@ use Rattle.set.proofs.agree.same_boundaries.Statement.{statement}
 use Rattle.set.proofs.agree.same_boundaries.Tie as tie
 
 abbrev Inv-loop : tie.InvT-loop
-Inv-loop s0 end0 s end at0₀ at₀ last₀ at0 at last = BesideGoing s0 end0 s end at0 at last
+Inv-loop s0 f0 s f end0 end at0₀ at₀ last₀ at0 at last = BesideGoing s0 f0 s f at0 at last
 
 abbrev μ-loop : tie.MeasureT-loop
-μ-loop s0 end0 s end at0₀ at₀ last₀ at0 at last = length s0 - at0
+μ-loop s0 f0 s f end0 end at0₀ at₀ last₀ at0 at last = length s0 - at0
 
 loop-holds : tie.Need-loop-holds Inv-loop μ-loop
-loop-holds c = let p = c .before .before .pre in beside-begins _ _ (p .1 .0) (p .1 .1) (p .1 .2)
+loop-holds c = let p = c .before .before .pre in beside-begins _ _ (p .0) (p .1) (p .2)
 
 next-fragment-requires : tie.Need-next-fragment-requires Inv-loop μ-loop
-next-fragment-requires c κs = c .before .before .before .pre .0 .0
+next-fragment-requires c κs = (c .loop .inv .short₀, c .loop .inv .sync₀)
 
 returns : tie.Need-returns Inv-loop μ-loop
 returns c =
@@ -29,7 +29,7 @@ returns c =
     ∙ sym (beside-ends _ _ (c .before .before .before .before .before .loop .inv) (rw (c .before .before .enum-told .given .1) at (c .before .before .before .before .next-fragment .ensures)))
 
 next-fragment-requires-2 : tie.Need-next-fragment-requires-2 Inv-loop μ-loop
-next-fragment-requires-2 c κs = c .before .before .before .before .before .before .before .pre .0 .1
+next-fragment-requires-2 c κs = let g = c .before .before .before .before .loop .inv in (g .short, g .sync)
 
 returns-2 : tie.Need-returns-2 Inv-loop μ-loop
 returns-2 c =
