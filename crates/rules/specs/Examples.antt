@@ -19,6 +19,11 @@ use Rattle.rules.specs.declared.Path.the-variants.{Top}
 use Rattle.rules.specs.declared.Rule.{Rule}
 use Rattle.rules.specs.declared.Rule.the-variants.{Holds, Breaks}
 
+-- T's header is what is written as bytes
+pub header-bytes : headerWith 90000 vide vmhd ≡ header
+unfolding computed
+header-bytes = refl
+
 -- the type `free`, which no rule names
 abbrev pub free : ℕ
 free = letters 0x66 0x72 0x65 0x65
