@@ -11,7 +11,7 @@ LIBRARY := $(or $(FLANGEMINT_LIB_DIR),target/native)
 ARCHIVE := $(if $(FLANGEMINT_LIB_DIR),,archive)
 
 .DEFAULT_GOAL := help
-.PHONY: help check test ground fmt archive cli test-cli c-check sentences python-test test-scripts trials stack scribble bench \
+.PHONY: help check test ground fmt archive cli test-cli c-check sentences python-test test-scripts trials player stack scribble bench \
     slowest fuzz samples expected vectors readme report-test names
 
 help: ## this list
@@ -61,6 +61,9 @@ test-scripts: ## ./intake, ./pack, ./stream and ./flangemint as they are called:
 
 trials: $(ARCHIVE) ## the proved code against the Rust reference, CASES a job (cargo)
 	$(TRIALS) run --seed $(SEED) --cases $(CASES)
+
+player: $(ARCHIVE) ## document 01's player over drawn sets, by the library's verdicts, CASES of them (cargo)
+	$(TRIALS) player --seed $(SEED) --cases $(CASES)
 
 stack: $(ARCHIVE) ## every exported function on its worst inputs in 64 KiB (cargo)
 	$(TRIALS) stack

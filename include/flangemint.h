@@ -35,9 +35,9 @@
 extern "C" {
 #endif
 
-#define FLANGEMINT_VERSION "0.1.0"
+#define FLANGEMINT_VERSION "0.2.0"
 #define FLANGEMINT_VERSION_MAJOR 0
-#define FLANGEMINT_VERSION_MINOR 1
+#define FLANGEMINT_VERSION_MINOR 2
 #define FLANGEMINT_VERSION_PATCH 0
 
 #define FLANGEMINT_MAX_BYTES 1073741824 /* of a slice, a track or a bundle: rule 1 */

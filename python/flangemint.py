@@ -24,7 +24,7 @@ import pathlib
 from dataclasses import dataclass
 
 __all__ = ["Answer", "Box", "NotBuilt", "Pieces", "Refused", "Verdict", "boxes", "check_set", "check_track"]
-__version__ = "0.1.0"
+__version__ = "0.2.0"
 
 # As in include/flangemint.h, which says how the rooms follow.
 MAX_BYTES = 1073741824
@@ -103,7 +103,10 @@ class NotBuilt(Exception):
 
 
 def check_track(data):
-    """The verdict on one track, header and chunks (numbers 0 to 22)."""
+    """The verdict on one track, header and chunks (numbers 0 to 22).
+
+    A chunk, a moof and its mdat, begins a fragment where its first sample is sync, else it continues one.
+    """
     return _checked("flangemint_track", data)
 
 

@@ -6,9 +6,10 @@ use mathlib.Core.Path.{_≡_, refl}
 use Rattle.rules.specs.Kinds.{trun, moof, mdat}
 use Rattle.rules.specs.Bytes.{in4, zeros, boxed, header, run, moofOf, chunk, trackT, flaggedChunk, syncFlags, otherFlags, threeChunks, trackU}
 use Rattle.rules.specs.Computed.{computed}
+use Rattle.rules.specs.Examples.{endsInTwo}
 use Rattle.rules.specs.Plays.{moofBy}
 use Rattle.rules.specs.Track.{ruling, fragmentCount}
-use Rattle.rules.specs.Set.{agree, setRuling}
+use Rattle.rules.specs.Set.{setRuling}
 use Rattle.rules.specs.Player.{Played, stuck, passed, play}
 use Rattle.rules.specs.declared.Rule.{Rule}
 use Rattle.rules.specs.declared.Rule.the-variants.{Holds, Breaks}
@@ -29,6 +30,9 @@ plansInChunks =
     -- its second chunk a tick late: the first step is stuck inside; its first chunk non-sync
     ∷ (threeChunks 180001 syncFlags, 0 ∷ [], stuck)
     ∷ (threeChunks 180000 otherFlags, 0 ∷ [], stuck)
+    -- a second fragment of two chunks, met with the clock set: in turn, and its last chunk a tick early
+    ∷ (endsInTwo 360000, 0 ∷ 0 ∷ [], passed (0 ∷ 180000 ∷ 540000 ∷ []))
+    ∷ (endsInTwo 359999, 0 ∷ 0 ∷ [], stuck)
     -- samples of the second chunk that begin a byte before the next byte
     ∷ (inTwo 112 30 111 30, 0 ∷ [], stuck)
     -- samples of it that end a byte past its `mdat`, and a byte before its end: the player asks no more
@@ -43,7 +47,7 @@ plansInChunks =
 
 -- the plans, by computation
 pub plans-in-chunks : map (λ e. play (e .0 ∷ []) (e .1)) plansInChunks ≡ map (λ e. e .2) plansInChunks
-unfolding computed inTwo plansInChunks
+unfolding computed endsInTwo inTwo plansInChunks
 plans-in-chunks = refl
 
 -- a chunk of one sample of 90,000 ticks and 10 bytes, from a start, with first-sample flags
@@ -55,6 +59,24 @@ halfChunk start flags =
 unfoldable pub trackW : List ℕ
 unfolding halfChunk
 trackW = header ++ halfChunk 0 syncFlags ++ halfChunk 90000 otherFlags ++ chunk 180000 108 30
+
+-- one fragment of three chunks, by the third one's start
+unfoldable pub inThirds : ℕ → List ℕ
+unfolding halfChunk
+inThirds third = header ++ halfChunk 0 syncFlags ++ halfChunk 90000 otherFlags ++ halfChunk third otherFlags
+
+-- one of two chunks, the second without a data offset: its samples begin at its own `moof`
+unfoldable pub bareSecond : List ℕ
+unfolding halfChunk
+bareSecond =
+    header ++ halfChunk 0 syncFlags
+    ++ moofOf 90000 (boxed trun (in4 0x304 ++ in4 1 ++ in4 otherFlags ++ in4 90000 ++ in4 10)) ++ boxed mdat (zeros 10)
+
+-- the third chunk in turn, a tick late and a tick early; and the second without an offset
+pub three-in-turn : map (λ s. play (s ∷ []) (0 ∷ [])) (inThirds 180000 ∷ inThirds 180001 ∷ inThirds 179999 ∷ bareSecond ∷ [])
+    ≡ (passed (0 ∷ 270000 ∷ []) ∷ stuck ∷ stuck ∷ stuck ∷ [])
+unfolding computed inThirds bareSecond
+three-in-turn = refl
 
 -- T and W are an accepted set
 pub set-T-W : setRuling (trackT ∷ trackW ∷ []) ≡ Holds
@@ -71,9 +93,15 @@ switches-T-W = refl
 unfoldable pub inThree : List ℕ
 inThree = header ++ flaggedChunk 0 syncFlags ++ flaggedChunk 180000 syncFlags ++ flaggedChunk 360000 syncFlags
 
-pub chunks-27 : agree trackU 1 (inThree ∷ []) ≡ Breaks 27 1 918
+pub chunks-27 : setRuling (trackU ∷ inThree ∷ []) ≡ Breaks 27 1 918
 unfolding computed inThree
 chunks-27 = refl
+
+-- the two plans of the second half: staying on U is stuck, staying on the other runs
+pub stays-27 : map (play (trackU ∷ inThree ∷ [])) ((0 ∷ 0 ∷ 0 ∷ []) ∷ (1 ∷ 1 ∷ 1 ∷ []) ∷ [])
+    ≡ (stuck ∷ passed (0 ∷ 180000 ∷ 360000 ∷ 540000 ∷ []) ∷ [])
+unfolding computed inThree
+stays-27 = refl
 
 pub switch-27 : play (trackU ∷ inThree ∷ []) (0 ∷ 1 ∷ []) ≡ stuck
 unfolding computed inThree

@@ -44,6 +44,10 @@ pub not-on : (a : Bool) → not a ≡ true → a ≡ false
 not-on true h = absurd (false≢true h)
 not-on false h = refl
 
+pub not-off : (a : Bool) → not a ≡ false → a ≡ true
+not-off true h = refl
+not-off false h = absurd (true≢false h)
+
 module _ {A : Type 0} where
   -- a property of every element is one of the i-th
   pub all-at : (P : A → Type 0) (xs : List A) (i : ℕ) (x : A) → All P xs → getElem? xs i ≡ some x → P x

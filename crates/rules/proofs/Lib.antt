@@ -8,6 +8,7 @@ pub mod OnePass
 pub mod Fragments
 pub mod Samples
 pub mod Stuck
+pub mod First
 pub mod Tiling
 pub mod Misframed
 pub mod Jobs

@@ -322,7 +322,7 @@ first-or-tick firstTick.Unset n b = refl
 first-or-tick (firstTick.Tick t) n b = refl
 
 -- the fragments that chunks at places begin, after an end before them
-abbrev begunAfter : Previous → (ℕ → Bool) → List ℕ → List Fragment
+abbrev pub begunAfter : Previous → (ℕ → Bool) → List ℕ → List Fragment
 begunAfter Unset sync xs = inFragments sync xs
 begunAfter (End e) sync xs = begunAmong sync xs
 
@@ -331,7 +331,8 @@ unfolding inFragments begunAmong
 begun-none Unset sync = refl
 begun-none (End e) sync = refl
 
-begun-one : (prev : Previous) (sync : ℕ → Bool) (x : ℕ) (xs : List ℕ)
+-- a chunk that begins a fragment brings one more, any other none
+pub begun-one : (prev : Previous) (sync : ℕ → Bool) (x : ℕ) (xs : List ℕ)
     → when (beginsOne prev (sync x)) 1 0 + length (begunAmong sync xs) ≡ length (begunAfter prev sync (x ∷ xs))
 unfolding beginsOne inFragments begunAmong
 begun-one Unset sync x xs = omega arith

@@ -112,6 +112,20 @@ tick-first : (n : ℕ) (r : Played) (ts : List ℕ) → tick n r ≡ passed ts �
 tick-first n stuck ts e = absurd (subst Passes (sym e) tt)
 tick-first n (passed us) ts e = (us, sym (passed-same (n ∷ us) ts e))
 
+-- an empty plan passes no tick, whatever the tracks
+pub empty-plan : (ss : List (List ℕ)) → play ss [] ≡ passed []
+unfolding play playStreams
+empty-plan ss = refl
+
+-- a plan passes the start of the first fragment of the track chosen first, then what its steps pass from the beginning on
+pub play-begins : (ss : List (List ℕ)) (i : ℕ) (plan s : List ℕ) (f : Fragment) → getElem? ss i ≡ some s → getElem? (fragments s) 0 ≡ some f
+    → play ss (i ∷ plan) ≡ tick (startAt s (f .first)) (playFrom (map streamOf ss) begin (i ∷ plan))
+unfolding play playStreams streamOf stretchAt pieceAt
+play-begins ss i plan s f e h =
+    let meet = stretchAt s (headerOf s) in
+    ap (λ (a : ℕ). tick a (playFrom (map streamOf ss) begin (i ∷ plan)))
+    (first-start (map streamOf ss) i plan (streamOf s) (meet f) (map-at streamOf ss i s e) (map-at meet (fragments s) 0 f h))
+
 -- ticks that begin with the start of the first fragment of the track that a choice names
 abbrev pub BeginsAt : List (List ℕ) → ℕ → List ℕ → Type 0
 BeginsAt ss i ts =

@@ -8,19 +8,17 @@ use native.Mathlib.Nat.{not-suc-le-zero, le-of-suc-le-suc}
 use native.Mathlib.Omega.{arith}
 use lib.ListN.{length, take, getElem?, getD}
 use lib.Seq.{getD-take}
-use Rattle.rules.specs.Boxes.{whole}
-use Rattle.rules.specs.Chunk.{syncIn}
 use Rattle.rules.specs.Track.{ruling, headerOf, chunks, startAt, endAt, syncAt, Fragment, fragments, fragmentCount, boundaries}
 use Rattle.rules.specs.Set.{track0, setRuling}
 use Rattle.rules.specs.Player.{Stretch, pieceAt, stretchAt, clockAfter}
 use Rattle.rules.specs.Plans.{All, Plan}
 use Rattle.rules.specs.declared.Rule.the-variants.{Holds}
-use Rattle.rules.proofs.Laws.{all-at, below, is-below, map-at}
+use Rattle.rules.proofs.Laws.{not-on, not-off, all-at, all-map, below, is-below, map-at}
 use Rattle.rules.proofs.Walk.{DataBox}
 use Rattle.rules.proofs.Fragments.{chunksOf, chunksIn, lastOf, lastChunk, all-chunks, others-non-sync, of-each}
 use Rattle.rules.proofs.Boundaries.{Spans, TilesFrom, Tiled, boxed-data, tiled, boundaries-length}
 use Rattle.rules.proofs.Samples.{EachOf, WholeSample, Lies, payloadAt, mdatEnd, samples-whole, samples-lie}
-use Rattle.rules.proofs.Stuck.{piecesOf, InTurn, went-in-turn}
+use Rattle.rules.proofs.Stuck.{piecesOf, nonSync, sync-is, InTurn, went-in-turn}
 use Rattle.rules.proofs.FirstHalf.{LikeFirst, all-alike}
 
 -- the step of number j of a plan takes the fragment f of the track s: it chooses s, and f is its j-th fragment
@@ -61,12 +59,12 @@ tiles-at (q ∷ fs) a (b ∷ bs) (suc j) f t l e = tiles-at fs b bs j f (t .1) (
 abbrev pub RunsOver : List ℕ → ℕ → Fragment → List ℕ → Type 0
 RunsOver s j f bs =
     ClockOver s (getD bs j 0) (chunksOf f) (getD bs (suc j) 0)
-    × (syncIn (whole s (f .first)) (headerOf s .defaults) ≡ true)
+    × (nonSync s (f .first) ≡ false)
     × All (WholeSamples s) (chunksOf f)
 
 -- the j-th fragment of an accepted track runs over the track's boundaries
 pub fragment-at : (s : List ℕ) → ruling s ≡ Holds → (j : ℕ) (f : Fragment) → getElem? (fragments s) j ≡ some f → RunsOver s j f (boundaries s)
-unfolding pieceAt stretchAt syncAt fragmentCount
+unfolding pieceAt stretchAt fragmentCount
 fragment-at s r j f e =
     let l = is-below (fragments s) j f e in
     let n : length (boundaries s) ≡ suc (fragmentCount s) = boundaries-length s (omega (arith, l)) in
@@ -76,11 +74,11 @@ fragment-at s r j f e =
     fs = map (stretchAt s (headerOf s)) (fragments s)
 
     spanned : (a b : ℕ) → Spans (stretchAt s (headerOf s) f) a b
-        → ClockOver s a (chunksOf f) b × (syncIn (whole s (f .first)) (headerOf s .defaults) ≡ true) × All (WholeSamples s) (chunksOf f)
+        → ClockOver s a (chunksOf f) b × (nonSync s (f .first) ≡ false) × All (WholeSamples s) (chunksOf f)
     spanned a b y =
         let end = endAt s (headerOf s) (f .first) in
         let c = over s end (f .others) b (went-in-turn (some end) s (f .others) (y .4)) (y .1) in
-        ((sym (y .0), c .0), y .2, (samples-whole s (f .first) (y .3), c .1))
+        ((sym (y .0), c .0), not-on (nonSync s (f .first)) (sym (sync-is s (f .first)) ∙ y .2), (samples-whole s (f .first) (y .3), c .1))
 
     go : (bs : List ℕ) → suc j < length bs → Tiled fs bs → RunsOver s j f bs
     go [] l t = absurd (not-suc-le-zero l)
@@ -143,15 +141,17 @@ module _ (ss : List (List ℕ)) (plan : List ℕ) (h : setRuling ss ≡ Holds) (
     clock-after-is-end = sym (last-end s (f .first) (f .others) (getD ticked (suc j) 0) (clock-in-turn .1))
 
     -- it starts on a sync sample
-    pub starts-on-sync : syncIn (whole s (f .first)) (headerOf s .defaults) ≡ true
+    pub starts-on-sync : nonSync s (f .first) ≡ false
     starts-on-sync = told .1
 
     -- and no chunk that continues it does
-    pub continues-non-sync : All (λ x. syncIn (whole s x) (headerOf s .defaults) ≡ false) (f .others)
-    unfolding fragments syncAt
+    pub continues-non-sync : All (λ x. nonSync s x ≡ true) (f .others)
+    unfolding fragments
     continues-non-sync =
-        all-at (λ y. All (λ x. syncAt s (headerOf s) x ≡ false) (y .others)) (fragments s) j f
-        (others-non-sync (syncAt s (headerOf s)) (chunks s)) (t .3)
+        all-map (λ x. syncAt s (headerOf s) x ≡ false) (λ x. nonSync s x ≡ true) (f .others)
+        (λ x e. not-off (nonSync s x) (sym (sync-is s x) ∙ e))
+        (all-at (λ y. All (λ x. syncAt s (headerOf s) x ≡ false) (y .others)) (fragments s) j f
+        (others-non-sync (syncAt s (headerOf s)) (chunks s)) (t .3))
 
     -- the data box of each of its chunks stands right behind it, of type `mdat` and inside the track
     pub own-data-box : All (DataBox s) (chunksOf f)

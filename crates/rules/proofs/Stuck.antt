@@ -1,20 +1,21 @@
 -- Each reason for the player to be stuck, by its name; and the converse: with none of them the step goes through.
 use mathlib.Core.Path.{_≡_, refl, sym, ap, _∙_}
-use mathlib.Core.Bool.{Bool, true, false, _&&_, false≢true}
+use mathlib.Core.Bool.{Bool, true, false, not, _&&_, false≢true}
 use mathlib.Core.Option.{Option, none, some, Option·none-ne-some}
 use mathlib.Core.List.{List, [], _∷_, _++_, map, map-append}
 use Prim.Native.Nat.{ℕ, _+_, _≤_}
 use native.Mathlib.Omega.{arith}
 use lib.ListN.{length, getElem?}
 use borrow.Author.Tests.{eq-eqb, eqb-true, ne-eqb}
+use Rattle.numbers.specs.Numbers.{has}
 use Rattle.rules.specs.Boxes.{whole}
-use Rattle.rules.specs.Chunk.{durationIn, endOf}
+use Rattle.rules.specs.Chunk.{runsIn, defaultsIn, firstFlags, syncIn, durationIn, endOf}
 use Rattle.rules.specs.Track.{headerOf, Fragment, fragments, fragmentCount, timescale, startAt, endAt, syncAt}
 use Rattle.rules.specs.Player.{Piece, Stretch, Stream, State, fedAt, pieceAt, stretchAt, rulesBeforeTiming, good, streamOf, fits, begin, inTurn, clockAfter}
 use Rattle.rules.specs.Player.{endsAt, goes, after, take?, stepOn, stuck, tick, playFrom, firstStart, playStreams, play}
 use Rattle.rules.specs.declared.Rule.{Rule}
 use Rattle.rules.specs.declared.Rule.the-variants.{Holds, Breaks}
-use Rattle.rules.proofs.Laws.{no-and, and-first, and-second, and-both, all-on, each-on, beyond, map-at, map-none}
+use Rattle.rules.proofs.Laws.{not-on, no-and, and-first, and-second, and-both, all-on, each-on, beyond, map-at, map-none}
 use Rattle.rules.proofs.Fragments.{chunksOf, lastOf, lastChunk}
 use Rattle.rules.proofs.Samples.{EachOf, SomeOf, WholeSample, NotNext, PastTill, mdatEnd, chunk-fed, samples-whole, unfed}
 
@@ -95,11 +96,19 @@ pub stuck-other-timescale : (g : State) (s : List ℕ) (m : ℕ) → g .scale �
 unfolding goes streamOf
 stuck-other-timescale g s m e h = refuses g s (λ f _. simp (unfit (g .scale) m (timescale s) e h, no-and))
 
+-- the bit 0x10000, non-sync, in the flags of the first sample of the chunk at x: that of its first run that has a sample
+abbrev pub nonSync : List ℕ → ℕ → Bool
+nonSync s x = has (firstFlags (whole s x) (defaultsIn (whole s x) (headerOf s .defaults)) (runsIn (whole s x))) 0x10000
+
+-- whether a chunk is sync is that bit
+pub sync-is : (s : List ℕ) (x : ℕ) → syncAt s (headerOf s) x ≡ not (nonSync s x)
+unfolding syncAt syncIn
+sync-is s x = refl
+
 -- a fragment whose first sample is non-sync: the step is stuck
-pub stuck-non-sync : (g : State) (s : List ℕ) (f : Fragment) → Meets g s f → syncAt s (headerOf s) (f .first) ≡ false
-    → stepOn g (streamOf s) ≡ none
+pub stuck-non-sync : (g : State) (s : List ℕ) (f : Fragment) → Meets g s f → nonSync s (f .first) ≡ true → stepOn g (streamOf s) ≡ none
 unfolding goes streamOf stretchAt
-stuck-non-sync g s f e h = refuses-at g s f e (simp (h, no-and))
+stuck-non-sync g s f e h = refuses-at g s f e (simp (sync-is s (f .first) ∙ ap not h, no-and))
 
 -- chunks that don't go in turn
 stuck-in-turn : (g : State) (s : List ℕ) (f : Fragment) → Meets g s f → inTurn (g .clock) (piecesOf s (chunksOf f)) ≡ false
@@ -195,7 +204,7 @@ StepReady g s f =
     Meets g s f
     × (rulesBeforeTiming s ≡ Holds)
     × UnsetOr (g .scale) (timescale s)
-    × (syncAt s (headerOf s) (f .first) ≡ true)
+    × (nonSync s (f .first) ≡ false)
     × InTurn (g .clock) s (chunksOf f)
 
 -- a step's four tests on a fragment of a track
@@ -218,7 +227,7 @@ unfolding goes streamOf stretchAt
 goes-through g s f r =
     step-goes g (streamOf s) (stretchAt s (headerOf s) f) (map-at (stretchAt s (headerOf s)) (fragments s) (g .number) f (r .0))
     (all-on (keeps g s f) (scaled g s f) (synced g s f) (turned g s f) (ap good (r .1))
-    (unset-fits (g .scale) (timescale s) (r .2)) (r .3) (turn-goes (g .clock) s (chunksOf f) (r .4)))
+    (unset-fits (g .scale) (timescale s) (r .2)) (sync-is s (f .first) ∙ ap not (r .3)) (turn-goes (g .clock) s (chunksOf f) (r .4)))
 
 -- the end of a chunk: its `tfdt` plus its durations
 pub end-is : (s : List ℕ) (x : ℕ) → endAt s (headerOf s) x ≡ startAt s x + durationIn (whole s x) (headerOf s .defaults)
@@ -301,7 +310,7 @@ went-through g s p h = go (getElem? (fragments s) (g .number)) refl
             e,
             kept (rulesBeforeTiming s) (q .0),
             fits-unset (g .scale) (timescale s) (q .1),
-            q .2,
+            not-on (nonSync s (f .first)) (sym (sync-is s (f .first)) ∙ q .2),
             went-in-turn (g .clock) s (chunksOf f) (q .3),
           ),
         )

@@ -5,7 +5,8 @@ use mathlib.Core.List.{List, [], _∷_, _++_, map}
 use mathlib.Core.Path.{_≡_, refl}
 use lib.ListN.{take, drop}
 use Rattle.rules.specs.Kinds.{vmhd, trun, vide, soun, letters}
-use Rattle.rules.specs.Bytes.{in4, in8, zeros, boxed, headerWith, header, run, moofOf, moofOf8, chunk, trackT, flaggedChunk, syncFlags, otherFlags, threeChunks, trackU}
+use Rattle.rules.specs.Bytes.{in4, in8, zeros, boxed, headerWith, header, run, moofOf, moofOf8, chunk, trackT}
+use Rattle.rules.specs.Bytes.{flaggedChunk, syncFlags, otherFlags, threeChunks, trackU}
 use Rattle.rules.specs.Computed.{computed}
 use Rattle.rules.specs.Boxes.{forest}
 use Rattle.rules.specs.Framing.{framing, framingRule}
@@ -56,9 +57,9 @@ acceptance = acceptedOver 0 180000 360000
 unfoldable pub besideT : ℕ → List ℕ → List ℕ
 besideT n s = (0x53 ∷ 0x57 ∷ in4 768) ++ trackT ++ (0x53 ∷ 0x57 ∷ in4 n) ++ s
 
--- three chunks in two fragments, of which the third chunk continues the second fragment
-unfoldable pub endsInTwo : List ℕ
-endsInTwo = header ++ flaggedChunk 0 syncFlags ++ flaggedChunk 180000 syncFlags ++ flaggedChunk 360000 otherFlags
+-- three chunks in two fragments, of which the third chunk continues the second fragment; by the third one's start
+unfoldable pub endsInTwo : ℕ → List ℕ
+endsInTwo third = header ++ flaggedChunk 0 syncFlags ++ flaggedChunk 180000 syncFlags ++ flaggedChunk third otherFlags
 
 -- each starred example: the job, the bytes of a track or of a bundle, and what the paper says of them
 unfoldable pub starred : List (Job × List ℕ × Outcome)
@@ -85,7 +86,7 @@ starred =
     ∷ (trackOutcome, threeChunks 180000 otherFlags, refusedAt 21 556)
     ∷ (setOutcome, besideT 918 trackU, refusedOf 28 1 776)
     -- the same with the last chunk as the one that continues: the last boundary differs, at the last fragment's first `moof`
-    ∷ (setOutcome, besideT 918 endsInTwo, refusedOf 28 1 634)
+    ∷ (setOutcome, besideT 918 (endsInTwo 360000), refusedOf 28 1 634)
     ∷ []
 
 -- the seventeen starred examples, by computation
@@ -125,9 +126,9 @@ box-limits = refl
 unfoldable pub samples : ℕ → List ℕ
 samples n = moofOf 0 (boxed trun (in4 0 ++ in4 n))
 
--- 18: 65,536 samples
+-- 18: 1 sample and none, 65,536 and one more
 unfoldable pub sampleLimits : List (ℕ × Rule)
-sampleLimits = (65536, Holds) ∷ (65537, Breaks 18 0 24) ∷ []
+sampleLimits = (0, Breaks 18 0 24) ∷ (1, Holds) ∷ (65536, Holds) ∷ (65537, Breaks 18 0 24) ∷ []
 
 pub sample-limits : map (λ e. rule18 (samples (e .0))) sampleLimits ≡ map (λ e. e .1) sampleLimits
 unfolding computed samples sampleLimits
@@ -148,6 +149,14 @@ tickLimits = (9223372036854595807, Holds) ∷ (9223372036854595808, Breaks 20 0 
 pub tick-limits : map (λ e. rule20 (startsAt (e .0)) noDefaults) tickLimits ≡ map (λ e. e .1) tickLimits
 unfolding computed startsAt tickLimits
 tick-limits = refl
+
+-- 20: a chunk of no tick, and of one, by the `trex` default
+unfoldable pub durationLimits : List (ℕ × Rule)
+durationLimits = (0, Breaks 20 0 64) ∷ (1, Holds) ∷ []
+
+pub duration-limits : map (λ e. rule20 (samples 1) (record { duration = e .0; size = 0; flags = 0 })) durationLimits ≡ map (λ e. e .1) durationLimits
+unfolding computed samples durationLimits
+duration-limits = refl
 
 -- a bundle of so many empty tracks
 unfoldable pub recordsOf : ℕ → List ℕ

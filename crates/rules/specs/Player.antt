@@ -183,5 +183,6 @@ play ss plan = playStreams (map streamOf ss) plan
 
 -- the mark of this file: its definitions unfold wherever it does
 unfoldable pub computedPlayer : Unit {0}
-unfolding samplesFed runStart runsFed fedAt pieceAt stretchAt shapes rulesBeforeTiming streamOf fits begin inTurn clockAfter goes after take? stepOn playFrom firstStart playStreams play
+unfolding samplesFed runStart runsFed fedAt pieceAt stretchAt shapes rulesBeforeTiming streamOf fits begin inTurn clockAfter goes after take?
+    stepOn playFrom firstStart playStreams play
 computedPlayer = tt

@@ -1,9 +1,9 @@
--- The player computed on small tracks: a later run's offset, a run of no samples, and a broken rule ahead of the plan.
+-- The player computed on small tracks: a later run's offset, a run of no samples, a broken rule ahead of the plan, and a late chunk inside a fragment.
 use Prim.Native.Nat.{ℕ}
 use mathlib.Core.List.{List, [], _∷_, _++_, map}
 use mathlib.Core.Path.{_≡_, refl}
 use Rattle.rules.specs.Kinds.{moof, mfhd, traf, tfhd, tfdt, trun, mdat}
-use Rattle.rules.specs.Bytes.{in4, zeros, boxed, header, run, moofOf, chunk}
+use Rattle.rules.specs.Bytes.{in4, zeros, boxed, header, run, moofOf, chunk, syncFlags, threeChunks, trackU}
 use Rattle.rules.specs.Computed.{computed}
 use Rattle.rules.specs.Track.{ruling}
 use Rattle.rules.specs.Player.{Played, stuck, passed, rulesBeforeTiming, play}
@@ -39,6 +39,9 @@ firstSteps =
     -- 17 broken in a chunk that the plan doesn't come to, and 17 in order: rules 1 to 18 are of the whole track, 22 is not
     ∷ (spare 2, stuck)
     ∷ (spare 1, passed (0 ∷ 180000 ∷ []))
+    -- U, whose first fragment has two chunks; and the second of them a tick late
+    ∷ (trackU, passed (0 ∷ 360000 ∷ []))
+    ∷ (threeChunks 180001 syncFlags, stuck)
     ∷ []
 
 -- the plans of one step, by computation

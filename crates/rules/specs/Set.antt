@@ -5,7 +5,8 @@ use lib.ListN.{length, drop}
 use lib.Dec.{eqb}
 use Rattle.rules.specs.Rules.{_then_, must, ofTrack, onRule}
 use Rattle.rules.specs.Header.{placesIn}
-use Rattle.rules.specs.Track.{rule1, ruling, moovAt, moovOf, headerOf, fragments, firstMoofs, fragmentCount, timescale, boundaries, Outcome, roomOf, refused}
+use Rattle.rules.specs.Track.{rule1, ruling, moovAt, moovOf, headerOf, fragments, firstMoofs, fragmentCount}
+use Rattle.rules.specs.Track.{timescale, boundaries, Outcome, roomOf, refused}
 use Rattle.rules.specs.Bundle.{rule24, tracks}
 use Rattle.rules.specs.declared.Rule.{Rule}
 use Rattle.rules.specs.declared.Rule.the-variants.{Holds}

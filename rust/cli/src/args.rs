@@ -67,8 +67,8 @@ Examples:
   flangemint report low.mp4 mid.mp4 high.mp4 -o page.html
   flangemint report video.mp4 -o - > page.html
 
-One page with all that it needs: the verdict, a picture of every track's boundaries with the place
-where they part, the boxes and bytes around it. It is there whole, or (status 2) not at all.
+One page with all that it needs: the verdict, a picture of every track's fragments and chunks with
+the place where they part, the boxes and bytes around it. It is there whole, or (status 2) not at all.
 ";
 
 const EXPLAIN: &str = "\
@@ -202,7 +202,7 @@ pub struct Batch {
     /// Sets judged at once, each of them in memory; without it as many as there are cores
     #[arg(short, long, value_name = "N", value_parser = clap::value_parser!(u16).range(1..))]
     pub jobs: Option<u16>,
-    /// Boundaries of accepted sets too
+    /// Boundaries of accepted sets too, and of single tracks the starts of their chunks
     #[arg(long)]
     pub boundaries: bool,
 }

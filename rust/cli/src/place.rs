@@ -51,6 +51,13 @@ fn chunk(view: View, nth: usize) -> Option<(u64, u64)> {
     Some((number as u64, moof.offset))
 }
 
+/// Where the box directly before a place at the top level is a `moof`: that one. Its `mdat` is not
+/// there.
+pub fn bare_moof(view: View, place: u64) -> Option<u64> {
+    let before = view.boxes.iter().rfind(|one| one.depth == 0 && one.offset < place)?;
+    (before.kind == *b"moof").then_some(before.offset)
+}
+
 /// The path of every box.
 pub fn paths(boxes: &[BoxAt]) -> Vec<String> {
     // Of each box its container, and which of its kind it is there.
@@ -124,6 +131,17 @@ mod tests {
         assert_eq!(numbers, expected);
         let (_, moof) = spot(view, boxes[15].offset).chunk.unwrap();
         assert_eq!(moof, boxes[10].offset);
+    }
+
+    #[test]
+    fn a_moof_without_its_mdat() {
+        let bytes = track();
+        let boxes = judge::index(&bytes).unwrap();
+        let view = View { bytes: &bytes, boxes: &boxes };
+        assert_eq!(bare_moof(view, boxes[15].offset), Some(boxes[10].offset));
+        assert_eq!(bare_moof(view, boxes[9].offset), None, "after an mdat");
+        assert_eq!(bare_moof(view, boxes[10].offset), None, "after a styp");
+        assert_eq!(bare_moof(view, 0), None);
     }
 
     #[test]

@@ -3,7 +3,7 @@
 //! and it never changes the verdict.
 
 use crate::bundle::MARK;
-use crate::chunks::chunks;
+use crate::chunks::{chunks, Chunk};
 use crate::facts::{Set, Track};
 use crate::found::{self, Contrast};
 use crate::judge::{self, Judged};
@@ -21,6 +21,8 @@ pub struct Reason {
     pub chunk: Option<Part>,
     /// That of the chunk; `None` where it can't be told which it is.
     pub fragment: Option<Part>,
+    /// Whether the chunk is known to be the first of its fragment.
+    pub begins: bool,
     pub contrast: Option<Contrast>,
     pub section: Option<&'static Section>,
     pub hint: Option<&'static str>,
@@ -122,6 +124,7 @@ impl Reason {
             at_end: false,
             chunk: None,
             fragment: None,
+            begins: false,
             contrast: None,
             section: section(verdict.number),
             hint: None,
@@ -137,7 +140,8 @@ impl Reason {
         let spot = spot(track.view(), verdict.place);
         let before = spot.chunk.and_then(|(_, moof)| front(track, moof));
         let end = before.as_ref().and_then(|front| front.boundaries.last().copied());
-        let (chunk, fragment) = spot.chunk.map_or((None, None), |one| {
+        let told = spot.chunk.and_then(|(number, _)| chunks(track).get(number as usize).copied());
+        let (chunk, fragment) = told.map_or((None, None), |one| {
             let (chunk, fragment) = parts(track, verdict, one, before.as_ref());
             (Some(chunk), fragment)
         });
@@ -146,6 +150,7 @@ impl Reason {
             at_end: verdict.place == track.bytes.len() as u64,
             chunk,
             fragment,
+            begins: told.is_some_and(|one| one.begins),
             contrast: found::in_track(verdict.number, track, verdict.place, end),
             hint: track.bytes.starts_with(&MARK).then_some(BUNDLE_HINT),
             spot,
@@ -160,14 +165,13 @@ fn front(track: &Track, moof: u64) -> Option<Judged> {
     before.verdict.is_accepted().then_some(before)
 }
 
-/// The chunk with this number and `moof`, and its fragment. `before` is the front that it follows.
+/// A chunk and its fragment. `before` is the front that it follows.
 fn parts(
     track: &Track,
     verdict: &Verdict,
-    (number, moof): (u64, u64),
+    Chunk { number, moof, fragment, .. }: Chunk,
     before: Option<&Judged>,
 ) -> (Part, Option<Part>) {
-    let fragment = chunks(track).get(number as usize).and_then(|chunk| chunk.fragment);
     let first = || (verdict.number >= AFTER_BODIES).then(|| own_start(track, moof)).flatten();
     // The front's boundaries are the starts of its fragments, and where the chunk starts.
     let start = |nth: usize| {
@@ -259,7 +263,9 @@ mod tests {
                         ticks(fragment) <= ticks(chunk),
                         "{name}: {number} {fragment:?} {chunk:?}"
                     );
-                    assert!(number != 28 || ticks(fragment) == ticks(chunk), "{name}");
+                    let same = ticks(fragment) == ticks(chunk);
+                    assert!(chunk.start.is_none() || same == reason.begins, "{name}: {number}");
+                    assert!(number != 28 || reason.begins, "{name}");
                 }
             }
         }

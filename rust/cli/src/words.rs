@@ -137,20 +137,18 @@ pub fn refused(verdict: &Verdict, reason: &Reason) -> Vec<Row> {
         )),
         _ => rows.push(("box", place(&reason.spot, verdict.place, reason.at_end))),
     }
-    rows.extend(reason.chunk.map(|chunk| ("chunk", of_chunk(chunk, reason.fragment))));
+    rows.extend(reason.chunk.map(|chunk| ("chunk", of_chunk(chunk, reason))));
     rows.extend(explained(reason));
     rows
 }
 
 /// `5 (the first is 0), at 2.520000 s, in fragment 1`, as far as it is known.
-fn of_chunk(chunk: Part, fragment: Option<Part>) -> String {
+fn of_chunk(chunk: Part, reason: &Reason) -> String {
     let at = |start: Start| format!(", at {}", seconds(start.ticks, start.timescale));
     let start = chunk.start.map_or(String::new(), at);
-    let of = fragment.map_or(String::new(), |fragment| {
-        let first = chunk.number == 0 || (chunk.start.is_some() && fragment.start == chunk.start);
-        let what = if first { "the first of" } else { "in" };
-        format!(", {what} fragment {}", fragment.number)
-    });
+    let what = if reason.begins { "the first of" } else { "in" };
+    let of = reason.fragment.map(|fragment| format!(", {what} fragment {}", fragment.number));
+    let of = of.unwrap_or_default();
     format!("{} (the first is 0){start}{of}", chunk.number)
 }
 

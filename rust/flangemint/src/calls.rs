@@ -51,7 +51,9 @@ pub fn check_index(data: &[u8], table: &mut [u64]) -> Verdict {
 }
 
 /// Checks one track; on acceptance the table begins with its boundaries, one
-/// more than it has fragments.
+/// more than it has fragments: the start of each and the end of the last. A
+/// chunk, a `moof` and its `mdat`, begins a fragment where its first sample is
+/// sync, else it continues one.
 pub fn check_track(data: &[u8], table: &mut [u64]) -> Verdict {
     call(flangemint_track, data, table)
 }

@@ -1,7 +1,7 @@
 //! The place where the tracks part, magnified until one tick can be seen.
 
 use super::mark::{Mark, Place};
-use super::picture::{bars, guessed_end, name, Line, AFTER, LEFT, PLOT};
+use super::picture::{bars, guessed_end, name, Drawn, Line, AFTER, LEFT, PLOT};
 use super::rows::Row;
 use super::scale::Scale;
 use super::svg::{width, Anchor, Svg, LETTER};
@@ -25,7 +25,14 @@ struct Window {
 }
 
 /// Draws it below `top`; answers where it ends.
-pub fn lens(svg: &mut Svg, rows: &[Row], mark: &Mark, whole: &Scale, top: f64) -> f64 {
+pub fn lens(
+    svg: &mut Svg,
+    rows: &[Row],
+    mark: &Mark,
+    whole: &Scale,
+    top: f64,
+    drawn: &mut Drawn,
+) -> f64 {
     let row = &rows[mark.row];
     let Some(Window { from, to, around }) = window(row, mark) else { return top };
     let around = i128::from(around);
@@ -58,7 +65,7 @@ pub fn lens(svg: &mut Svg, rows: &[Row], mark: &Mark, whole: &Scale, top: f64) -
         if rows[*of].is_empty() {
             continue;
         }
-        bars(svg, &rows[*of], &scale, line);
+        bars(svg, &rows[*of], &scale, line, drawn);
         let refused = *of == mark.row;
         if refused {
             svg.rect("refused", ends, line.y - BAR / 2.0 - 3.0, BAR + 6.0);
@@ -97,10 +104,10 @@ pub fn lens(svg: &mut Svg, rows: &[Row], mark: &Mark, whole: &Scale, top: f64) -
     bottom + 26.0
 }
 
-/// What is magnified; the header and the tail have no time.
+/// What is magnified; the header has no time, and what is between chunks or after them no length.
 fn window(row: &Row, mark: &Mark) -> Option<Window> {
     match mark.place {
-        Place::Header | Place::Tail => None,
+        Place::Header | Place::Between { .. } | Place::Tail { .. } => None,
         Place::Chunk { start, end } => {
             let to = end.unwrap_or_else(|| guessed_end(row, start)).max(start);
             Some(Window { from: start, to, around: ((to - start) / 4 * 3).max(1) })

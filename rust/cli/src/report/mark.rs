@@ -1,7 +1,9 @@
 //! Where a set parts: the place in the picture that a refusal points to.
 
 use super::rows::Row;
+use crate::chunks::{chunks, Chunk};
 use crate::facts::Track;
+use crate::place::bare_moof;
 use crate::reason::Reason;
 use crate::time::seconds;
 use flangemint::Verdict;
@@ -21,8 +23,10 @@ pub enum Place {
     Chunk { start: u64, end: Option<u64> },
     /// A tick that stands elsewhere than expected; `at` is the moment from which on it is wrong.
     Ticks { found: u64, expected: u64, at: u64 },
-    /// After the last chunk.
-    Tail,
+    /// Between two chunks, at the end of the first.
+    Between { at: u64 },
+    /// After the last chunk, which ends there.
+    Tail { at: u64 },
 }
 
 /// The mark of a refusal; numbers that point to no byte of a track have none.
@@ -35,7 +39,7 @@ pub fn mark(verdict: &Verdict, reason: &Reason, rows: &[Row], tracks: &[Track]) 
     let (place, words) = match verdict.number {
         19 => decode_time(reason, row)?,
         27 | 28 => beside(verdict, row, rows.first()?)?,
-        _ => box_at(verdict, reason, row, track),
+        _ => box_at(verdict.place, reason, row, track),
     };
     Some(Mark { row: nth, place, words })
 }
@@ -59,12 +63,16 @@ fn decode_time(reason: &Reason, row: &Row) -> Option<(Place, String)> {
     Some((Place::Ticks { found, expected, at: expected }, words))
 }
 
-/// `chunk 5 (of fragment 1)`; just the chunk where its fragment has the same number or none.
+/// The name of the chunk in which the refused box stands.
 fn chunk(reason: &Reason) -> Option<String> {
-    let number = reason.chunk?.number;
-    let other = reason.fragment.filter(|fragment| fragment.number != number);
-    let of = other.map_or(String::new(), |fragment| format!(" (of fragment {})", fragment.number));
-    Some(format!("chunk {number}{of}"))
+    Some(named(reason.chunk?.number, reason.fragment.map(|fragment| fragment.number)))
+}
+
+/// `chunk 5 (of fragment 1)`; just the chunk where its fragment has the same number or none.
+fn named(chunk: u64, fragment: Option<u64>) -> String {
+    let other = fragment.filter(|fragment| *fragment != chunk);
+    let of = other.map_or(String::new(), |fragment| format!(" (of fragment {fragment})"));
+    format!("chunk {chunk}{of}")
 }
 
 /// 27 and 28: the first boundary that differs; where none does, the end of the shorter track.
@@ -74,8 +82,17 @@ fn beside(verdict: &Verdict, row: &Row, zero: &Row) -> Option<(Place, String)> {
         |found: u64, expected: u64| Place::Ticks { found, expected, at: found.min(expected) };
     let mut both = row.judged.iter().zip(&zero.judged).enumerate();
     if let Some((nth, (found, expected))) = both.find(|(_, (one, other))| one != other) {
-        let shift = shift(*found, *expected, row.timescale);
-        let words = format!("boundary {nth} of track {track} is {shift}");
+        let at = |ticks: u64| format!("at tick {ticks} ({})", seconds(ticks, row.timescale));
+        let words = match verdict.number {
+            27 if found > expected => {
+                format!("track {track} has no boundary {}, as track 0 has", at(*expected))
+            }
+            27 => format!("track {track} has a boundary {} that track 0 has not", at(*found)),
+            _ => {
+                let shift = shift(*found, *expected, row.timescale);
+                format!("boundary {nth} of track {track} is {shift}")
+            }
+        };
         return Some((ticks(*found, *expected), words));
     }
     let missing = row.judged.len().abs_diff(zero.judged.len());
@@ -85,25 +102,53 @@ fn beside(verdict: &Verdict, row: &Row, zero: &Row) -> Option<(Place, String)> {
     Some((ticks(*row.judged.last()?, *zero.judged.last()?), words))
 }
 
-/// Other refusals: the chunk in which the refused box stands, or what is before and after all.
-fn box_at(verdict: &Verdict, reason: &Reason, row: &Row, track: &Track) -> (Place, String) {
-    let Some((number, chunk)) = reason.chunk.map(|one| one.number).zip(chunk(reason)) else {
-        let before = |(place, moof): (u64, u64)| place < moof;
-        let moof = track.view().child(None, b"moof").map(|nth| track.listing.boxes[nth].offset);
-        return match moof.map(|moof| (verdict.place, moof)) {
-            Some(places) if !before(places) && !row.is_empty() => {
-                (Place::Tail, "refused after the last chunk that can be read".to_owned())
-            }
-            _ => (Place::Header, "refused before the first fragment".to_owned()),
-        };
+/// Other refusals: the chunk in which the refused box stands, or what is before, between and after
+/// them.
+fn box_at(place: u64, reason: &Reason, row: &Row, track: &Track) -> (Place, String) {
+    if let Some((part, name)) = reason.chunk.zip(chunk(reason)) {
+        return in_chunk(row, part.number, format!("{name} is refused"));
+    }
+    let all = chunks(track);
+    let Some(nth) = all.iter().rposition(|chunk| chunk.moof < place) else {
+        return (Place::Header, "refused before the first fragment".to_owned());
     };
+    let Chunk { number, moof, fragment, .. } = all[nth];
+    if bare_moof(track.view(), place) == Some(moof) {
+        let name = named(number, fragment);
+        return in_chunk(
+            row,
+            number,
+            format!("{name} is refused: no mdat directly after its moof"),
+        );
+    }
+    after(row, number, all.get(nth + 1).map(|next| next.number), track.listing.proved)
+}
+
+/// In a chunk.
+fn in_chunk(row: &Row, number: u64, words: String) -> (Place, String) {
     let read = row.read.iter().find(|read| read.number == number);
     let start = read.map(|read| read.start).or(row.judged.last().copied());
     match start {
-        Some(start) => {
-            let place = Place::Chunk { start, end: read.map(|read| read.end) };
-            (place, format!("{chunk} is refused"))
-        }
-        None => (Place::Header, format!("{chunk} is refused; its time can't be read")),
+        Some(start) => (Place::Chunk { start, end: read.map(|read| read.end) }, words),
+        None => (Place::Header, format!("{words}; its time can't be read")),
+    }
+}
+
+/// After a chunk and before the next one, if there is one. Where the framing is refused, boxes are
+/// listed up to the place and not all of them.
+fn after(row: &Row, number: u64, next: Option<u64>, all: bool) -> (Place, String) {
+    let read = |number: u64| row.read.iter().find(move |read| read.number == number);
+    let end = read(number).map(|read| read.end).or(row.judged.last().copied());
+    // Where the end can't be read, the next chunk tells it.
+    let at = end.or_else(|| read(next?).map(|read| read.start));
+    let words = match next {
+        Some(next) => format!("refused between chunk {number} and chunk {next}"),
+        None if all => format!("refused after chunk {number}, the last one"),
+        None => format!("refused after chunk {number}; what follows is not read"),
+    };
+    match at {
+        Some(at) if next.is_some() => (Place::Between { at }, words),
+        Some(at) => (Place::Tail { at }, words),
+        None => (Place::Header, format!("{words}; no time can be read there")),
     }
 }

@@ -65,6 +65,18 @@ mod tests {
         assert_eq!(count("<text class=\"mark "), usize::from(marked), "{name}: {line}");
         assert_eq!(count("<tr class=\"marked\">"), usize::from(marked), "{name}: {line}");
         assert_eq!(count("<rect class=\"refused\"") > 0, marked, "{name}: {line}");
+        let drawn = [
+            ("judged", "rect class=\"judged\""),
+            ("judged parted", "path class=\"part\""),
+            ("read", "rect class=\"read\""),
+            ("read parted", "path class=\"part unjudged\""),
+            ("refused", "rect class=\"refused\""),
+        ];
+        for (class, element) in drawn {
+            let there = count(&format!("<i class=\"{class}\">")) > 0;
+            assert_eq!(there, count(element) > 0, "{name}: {line}: {class}");
+        }
+        assert_eq!(count("An arrow") > 0, count("class=\"beyond\"") > 0, "{name}: {line}");
         verdict.number
     }
 

@@ -1,8 +1,9 @@
 //! The page: one document with everything that it needs.
 
 use super::mark::{mark, Mark};
+use super::picture::{self, Drawn, Picture};
 use super::rows::{rows, Row};
-use super::{bytes, html, picture};
+use super::{bytes, html};
 use crate::args::VERSION;
 use crate::facts::{Set, Track};
 use crate::reason::Reason;
@@ -92,9 +93,6 @@ fn facts(rows: &[words::Row]) -> String {
 }
 
 fn figure(rows: &[Row], mark: Option<&Mark>, refused: bool) -> String {
-    let judged = rows.iter().any(|row| !row.judged.is_empty());
-    let parted = rows.iter().any(|row| row.parts.len() > row.judged.len());
-    let unjudged = rows.iter().any(|row| !row.read.is_empty());
     let heading = if refused { "Where it breaks" } else { "Boundaries over time" };
     let mut about = match mark {
         Some(mark) => format!("Track {}: {}.", mark.row, mark.words),
@@ -104,31 +102,34 @@ fn figure(rows: &[Row], mark: Option<&Mark>, refused: bool) -> String {
     if !refused && rows.len() == 1 {
         about = "The boundaries of the track.".to_owned();
     }
-    let picture = picture::picture(rows, mark, &about);
-    let mut legend = String::new();
-    let mut entry = |class: &str, words: &str| {
-        let _ = write!(legend, "<span><i class=\"{class}\"></i>{words}</span> ");
-    };
-    if judged {
-        entry("judged", "fragments that the library accepts");
-    }
-    if parted {
-        entry("judged parted", "in several chunks");
-    }
-    if unjudged {
-        entry("read", "chunks as the bytes have them, not judged");
-    }
-    if mark.is_some() {
-        entry("refused", "where the refusal is");
-    }
-    if picture.thinned {
-        legend +=
-            "<span>Some boundaries or chunks are too near to each other for a line each.</span>";
-    }
+    let Picture { svg, drawn } = picture::picture(rows, mark, &about);
+    let legend = legend(drawn, mark.is_some());
     format!(
-        "<section>\n<h2>{heading}</h2>\n<figure>\n{}<figcaption>{legend}</figcaption>\n</figure>\n</section>\n",
-        picture.svg
+        "<section>\n<h2>{heading}</h2>\n<figure>\n{svg}<figcaption>{legend}</figcaption>\n</figure>\n</section>\n"
     )
+}
+
+/// An entry for everything that is drawn, and for nothing else.
+fn legend(drawn: Drawn, marked: bool) -> String {
+    let entries = [
+        (drawn.judged, "judged", "fragments that the library accepts"),
+        (drawn.parted, "judged parted", "in several chunks"),
+        (drawn.read, "read", "chunks as the bytes have them, not judged"),
+        (drawn.continued, "read parted", "those that continue a fragment"),
+        (marked, "refused", "where the refusal is"),
+    ];
+    let notes = [
+        (drawn.beyond, "An arrow stands for chunks beyond the edge."),
+        (drawn.thinned, "Some boundaries or chunks are too near to each other for a line each."),
+    ];
+    let mut legend = String::new();
+    for (_, class, words) in entries.into_iter().filter(|(there, ..)| *there) {
+        let _ = write!(legend, "<span><i class=\"{class}\"></i>{words}</span> ");
+    }
+    for (_, words) in notes.into_iter().filter(|(there, _)| *there) {
+        let _ = write!(legend, "<span>{words}</span> ");
+    }
+    legend
 }
 
 /// What the number means, and the boxes and bytes around the place.

@@ -32,7 +32,23 @@ const PATTERNS: &str = r#"<defs>
 pub struct Picture {
     /// One `svg` element.
     pub svg: String,
-    /// Where boundaries are too near to each other to have a line each.
+    pub drawn: Drawn,
+}
+
+/// What there is to be seen, for the legend.
+#[derive(Clone, Copy, Debug, Default, PartialEq, Eq)]
+pub struct Drawn {
+    /// Judged fragments.
+    pub judged: bool,
+    /// Lines inside them, where their next chunk begins.
+    pub parted: bool,
+    /// Unjudged chunks.
+    pub read: bool,
+    /// Lines where one of them continues a fragment.
+    pub continued: bool,
+    /// Arrows, for unjudged chunks beyond an edge.
+    pub beyond: bool,
+    /// Boundaries or chunks too near to each other to have a line each.
     pub thinned: bool,
 }
 
@@ -46,7 +62,7 @@ pub fn picture(rows: &[Row], mark: Option<&Mark>, about: &str) -> Picture {
     };
     let scale = extent(rows, mark);
     let bottom = TOP + pitch * rows.len() as f64;
-    let mut thinned = false;
+    let mut drawn = Drawn::default();
     if let Some(scale) = &scale {
         axis(&mut svg, scale, bottom);
     }
@@ -64,9 +80,9 @@ pub fn picture(rows: &[Row], mark: Option<&Mark>, about: &str) -> Picture {
         }
         match &scale {
             Some(scale) if !row.is_empty() => {
-                thinned |= bars(&mut svg, row, scale, line);
+                bars(&mut svg, row, scale, line, &mut drawn);
                 numbers(&mut svg, row, scale, line);
-                arrows(&mut svg, row, scale, line);
+                drawn.beyond |= arrows(&mut svg, row, scale, line);
             }
             _ => {
                 svg.text("nothing", LEFT + 8.0, line.y + 4.0, Anchor::Start, "no fragment to draw")
@@ -79,7 +95,7 @@ pub fn picture(rows: &[Row], mark: Option<&Mark>, about: &str) -> Picture {
         height = point(&mut svg, rows, mark, scale.as_ref(), line, (pitch, bottom));
     }
     if let (Some(mark), Some(scale)) = (mark, &scale) {
-        height = lens::lens(&mut svg, rows, mark, scale, height);
+        height = lens::lens(&mut svg, rows, mark, scale, height, &mut drawn);
     }
     let mut text = String::new();
     let _ = writeln!(
@@ -89,7 +105,7 @@ pub fn picture(rows: &[Row], mark: Option<&Mark>, about: &str) -> Picture {
     let title = "Boundaries of every track over time";
     let _ = writeln!(text, r#"<title id="picture-title">{title}</title>"#);
     let _ = writeln!(text, r#"<desc id="picture-about">{}</desc>"#, html::text(about));
-    Picture { svg: text + PATTERNS + &svg.0 + "</svg>\n", thinned }
+    Picture { svg: text + PATTERNS + &svg.0 + "</svg>\n", drawn }
 }
 
 /// Where a row is drawn: its middle and its height.
@@ -165,9 +181,9 @@ fn axis(svg: &mut Svg, scale: &Scale, bottom: f64) {
 }
 
 /// A track's fragments: judged ones as one bar, unjudged chunks as others, a dark line at each
-/// boundary and a light one between the chunks of a fragment. Answers whether some judged ones have
-/// no line, as it could not be told from the one before.
-pub fn bars(svg: &mut Svg, row: &Row, scale: &Scale, line: Line) -> bool {
+/// boundary and a light one between the chunks of a fragment. Lines that could not be told from the
+/// one before are left out.
+pub fn bars(svg: &mut Svg, row: &Row, scale: &Scale, line: Line, drawn: &mut Drawn) {
     let x = |ticks: u64| scale.x(row.at(ticks));
     let mut bar = |class: &str, start: u64, end: u64| {
         let inside = x(end) >= scale.left && x(start) <= scale.right();
@@ -175,41 +191,61 @@ pub fn bars(svg: &mut Svg, row: &Row, scale: &Scale, line: Line) -> bool {
             let ends = (scale.x_inside(row.at(start)), scale.x_inside(row.at(end)));
             svg.rect(class, ends, line.top(), line.height);
         }
+        inside
     };
     if let (Some(first), Some(last)) = (row.judged.first(), row.judged.last()) {
-        bar("judged", *first, *last);
+        drawn.judged |= bar("judged", *first, *last);
     }
     for (start, end) in joined(&row.read) {
-        bar("read", start, end);
+        drawn.read |= bar("read", start, end);
     }
+    let mut lines = |class: &str, ticks: &[u64], nearest: f64, beyond: f64| {
+        let shown = apart(&inside(ticks.iter().copied().map(x), scale), nearest);
+        svg.verticals(class, &shown, (line.top() - beyond, line.bottom() + beyond));
+        !shown.is_empty()
+    };
     let (begun, continued) = unjudged_edges(row);
-    let begun = inside(begun.into_iter().map(x), scale);
-    let continued = inside(continued.into_iter().map(x), scale);
-    let boundaries = &row.judged[..row.judged.len() - usize::from(row.open)];
-    let judged = inside(boundaries.iter().copied().map(x), scale);
-    let between = row.parts.iter().filter(|part| boundaries.binary_search(part).is_err());
-    let between = inside(between.copied().map(x), scale);
-    let (shown, shown_parts) = (apart(&judged, NEAREST), apart(&between, NEAREST_PART));
-    svg.verticals("part", &shown_parts, (line.top(), line.bottom()));
-    svg.verticals("part unjudged", &apart(&continued, NEAREST_PART), (line.top(), line.bottom()));
-    svg.verticals("boundary unjudged", &apart(&begun, NEAREST), (line.top(), line.bottom()));
-    svg.verticals("boundary", &shown, (line.top() - 2.0, line.bottom() + 2.0));
-    shown.len() < judged.len() || shown_parts.len() < between.len()
+    drawn.parted |= lines("part", &row.between(), NEAREST_PART, 0.0);
+    drawn.continued |= lines("part unjudged", &continued, NEAREST_PART, 0.0);
+    lines("boundary unjudged", &begun, NEAREST, 0.0);
+    lines("boundary", row.boundaries(), NEAREST, 2.0);
+    drawn.thinned |= crowded(row, scale);
 }
 
-/// Where unjudged chunks start and end: first where a fragment may begin or stop, then where a chunk
-/// goes on with the one before.
+/// Whether boundaries or chunks are too near to each other to have a line each.
+fn crowded(row: &Row, scale: &Scale) -> bool {
+    let starts = |continues: bool| {
+        let some = row.read.iter().filter(|read| read.continues() == continues);
+        let mut starts: Vec<u64> = some.map(|read| read.start).collect();
+        starts.sort_unstable();
+        starts
+    };
+    let near = |ticks: &[u64], nearest: f64| {
+        let all = inside(ticks.iter().map(|at| scale.x(row.at(*at))), scale);
+        apart(&all, nearest).len() < all.len()
+    };
+    near(row.boundaries(), NEAREST)
+        || near(&row.between(), NEAREST_PART)
+        || near(&starts(false), NEAREST)
+        || near(&starts(true), NEAREST_PART)
+}
+
+/// Where unjudged chunks start and end, in order: first where a fragment may begin or stop, then
+/// where a chunk goes on with the one before.
 fn unjudged_edges(row: &Row) -> (Vec<u64>, Vec<u64>) {
     let (mut begun, mut continued) = (Vec::new(), Vec::new());
     let mut before = None;
     for read in &row.read {
-        let continues = read.fragment.is_some() && !read.begins;
-        let edges = if continues { &mut continued } else { &mut begun };
+        let edges = if read.continues() { &mut continued } else { &mut begun };
         edges.extend(before.filter(|end| *end != read.start));
         edges.push(read.start);
         before = Some(read.end);
     }
     begun.extend(before);
+    for edges in [&mut begun, &mut continued] {
+        edges.sort_unstable();
+        edges.dedup();
+    }
     (begun, continued)
 }
 
@@ -240,18 +276,21 @@ fn apart(xs: &[f64], nearest: f64) -> Vec<f64> {
     shown
 }
 
-/// An arrow at the edge stands for chunks beyond it.
-fn arrows(svg: &mut Svg, row: &Row, scale: &Scale, line: Line) {
+/// An arrow at the edge stands for chunks beyond it. Answers whether there is one.
+fn arrows(svg: &mut Svg, row: &Row, scale: &Scale, line: Line) -> bool {
     let mut arrow = |edge: f64, tip: f64| {
         svg.polygon("beyond", &[(edge, line.y - 5.0), (tip, line.y), (edge, line.y + 5.0)]);
     };
-    let beyond = |at: u64| scale.x(row.at(at));
-    if row.read.iter().any(|read| beyond(read.start) > scale.right() + 1.0) {
+    let x = |at: u64| scale.x(row.at(at));
+    let after = row.read.iter().any(|read| x(read.start) > scale.right() + 1.0);
+    let before = row.read.iter().any(|read| x(read.end) < scale.left - 1.0);
+    if after {
         arrow(scale.right() + 3.0, scale.right() + 10.0);
     }
-    if row.read.iter().any(|read| beyond(read.end) < scale.left - 1.0) {
+    if before {
         arrow(scale.left - 3.0, scale.left - 10.0);
     }
+    after || before
 }
 
 /// The number of each fragment, where there is room for all of them.
@@ -345,11 +384,8 @@ fn stretch(row: &Row, mark: &Mark, scale: &Scale) -> Option<(f64, (f64, f64))> {
         Place::Ticks { found, expected, at } => {
             Some((x(at), wide((x(found.min(expected)), x(found.max(expected))))))
         }
-        Place::Tail => {
-            let last = row.judged.iter().copied().chain(row.read.iter().map(|read| read.end)).max();
-            let at = x(last?);
-            Some((at + 6.0, (at + 2.0, at + 10.0)))
-        }
+        Place::Between { at } => Some((x(at), (x(at) - 4.0, x(at) + 4.0))),
+        Place::Tail { at } => Some((x(at) + 6.0, (x(at) + 2.0, x(at) + 10.0))),
     }
 }
 

@@ -6,7 +6,7 @@ use crate::chunks::{chunks, Chunk};
 use crate::facts::{Set, Track};
 use crate::found;
 use crate::judge;
-use crate::place::spot;
+use crate::place::{bare_moof, spot};
 
 pub struct Row<'a> {
     pub name: &'a str,
@@ -37,6 +37,13 @@ pub struct Read {
     pub begins: bool,
     pub start: u64,
     pub end: u64,
+}
+
+impl Read {
+    /// Whether it is known to go on with the fragment before it.
+    pub fn continues(&self) -> bool {
+        self.fragment.is_some() && !self.begins
+    }
 }
 
 /// A row a track; `tracks` is empty where none was looked at.
@@ -98,6 +105,17 @@ impl<'a> Row<'a> {
         self.judged.is_empty() && self.read.is_empty()
     }
 
+    /// Where the judged fragments begin and the last one ends, as far as it does so.
+    pub fn boundaries(&self) -> &[u64] {
+        &self.judged[..self.judged.len() - usize::from(self.open)]
+    }
+
+    /// Where a judged fragment goes on with its next chunk.
+    pub fn between(&self) -> Vec<u64> {
+        let inside = |part: &&u64| self.boundaries().binary_search(part).is_err();
+        self.parts.iter().filter(inside).copied().collect()
+    }
+
     pub fn at(&self, ticks: u64) -> Moment {
         Moment::new(ticks, self.timescale)
     }
@@ -135,6 +153,8 @@ fn front(track: &Track) -> Front {
     let top = view.at(verdict.place).map(|nth| view.boxes[view.top(nth)].offset);
     let moof = spot(view, verdict.place).chunk.map(|(_, moof)| moof);
     let cut = moof.or(top).unwrap_or(verdict.place);
+    // A `moof` without its `mdat` is no chunk yet.
+    let cut = bare_moof(view, cut).unwrap_or(cut);
     let before = usize::try_from(cut).ok().and_then(|cut| track.bytes.get(..cut));
     let judged = before.map_or(vec![], |bytes| judge::track(bytes).boundaries);
     Front { judged, cut }

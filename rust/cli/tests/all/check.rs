@@ -1,7 +1,8 @@
 //! `flangemint check`.
 
-use crate::folder::{sample, samples, track_t, tracks, Folder};
+use crate::folder::{boxes_t, continues, sample, samples, track_t, tracks, Folder};
 use crate::run::{run, run_with, with_names};
+use maker::node;
 use serde_json::{json, Value};
 use std::ffi::OsStr;
 use std::fs;
@@ -162,16 +163,38 @@ refused 19 track 0 at 3580
     assert!(ran.out.contains(words), "{}", ran.out);
 }
 
+/// Where the chunks before the refused one are bad too, its time is not known; which fragment it
+/// begins or continues still is, as its own bytes tell it.
+#[test]
+fn fragments_behind_a_bad_front() {
+    let folder = Folder::new("fragments_behind_a_bad_front");
+    // Chunk 0 with a gap after it, then fragments of two chunks. The `mdat` of one is left open.
+    let refused = |nth: usize| {
+        let mut boxes = boxes_t(5, |track| {
+            track.chunks[1].start += 1;
+            [2, 4].iter().for_each(|nth| continues(&mut track.chunks[*nth]));
+        });
+        let from = node::bytes(&boxes[..3 + 2 * nth]).len();
+        boxes.truncate(4 + 2 * nth);
+        let mut bytes = node::bytes(&boxes);
+        bytes[from..from + 4].fill(0);
+        folder.put("open.mp4", &bytes);
+        let ran = run(&folder, &["check", "open.mp4"]);
+        assert_eq!(ran.first_line(), format!("refused 3 track 0 at {from}"));
+        let line = ran.out.lines().find(|line| line.starts_with("  chunk ")).unwrap();
+        line["  chunk     ".len()..].to_owned()
+    };
+    assert_eq!(refused(0), "0 (the first is 0), the first of fragment 0");
+    assert_eq!(refused(2), "2 (the first is 0), in fragment 1");
+    assert_eq!(refused(3), "3 (the first is 0), the first of fragment 2");
+    assert_eq!(refused(4), "4 (the first is 0), in fragment 2");
+}
+
 /// Only the track's first chunk must begin with a sync sample; others go on with their fragment.
 #[test]
 fn a_track_begins_with_a_sync_sample() {
     let folder = Folder::new("a_track_begins_with_a_sync_sample");
-    let non_sync = |nth: usize| {
-        track_t(3, |track| {
-            track.chunks[nth].runs[0].flags |= 0x4;
-            track.chunks[nth].runs[0].first_sample_flags = 0x1_0000;
-        })
-    };
+    let non_sync = |nth: usize| track_t(3, |track| continues(&mut track.chunks[nth]));
     folder.put("first.mp4", &non_sync(0));
     folder.put("later.mp4", &non_sync(1));
     let ran = run(&folder, &["check", "first.mp4"]);

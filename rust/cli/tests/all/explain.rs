@@ -30,7 +30,7 @@ fn other_numbers() {
 #[test]
 fn help_and_version() {
     let folder = Folder::new("help_and_version");
-    for command in ["check", "stream", "boxes", "explain", "pack", "batch"] {
+    for command in ["check", "stream", "boxes", "report", "explain", "pack", "batch"] {
         let ran = run(&folder, &[command, "--help"]);
         assert_eq!((ran.status, ran.err.as_str()), (0, ""));
         let example = format!("\n  flangemint {command} ");
@@ -39,6 +39,6 @@ fn help_and_version() {
     }
     let ran = run(&folder, &["--version"]);
     let lines: Vec<&str> = ran.out.lines().collect();
-    assert_eq!(lines[..2], [concat!("flangemint ", env!("CARGO_PKG_VERSION")), "library 0.1.0"]);
+    assert_eq!(lines[..2], [concat!("flangemint ", env!("CARGO_PKG_VERSION")), "library 0.2.0"]);
     assert!(lines[2].starts_with("kit ") && lines.len() == 3, "{}", ran.out);
 }

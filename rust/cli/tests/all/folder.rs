@@ -1,8 +1,8 @@
 //! A folder for one test, and tracks to put into it.
 
 use maker::bundle::record;
-use maker::node;
-use maker::track::{Fill, Track};
+use maker::node::{self, Node};
+use maker::track::{Chunk, Fill, Track, NON_SYNC};
 use std::fs;
 use std::path::{Path, PathBuf};
 
@@ -73,7 +73,18 @@ pub fn tracks(bundle: &[u8]) -> Vec<Vec<u8>> {
 
 /// Track T of document 01 with so many chunks, each a fragment unless it is changed.
 pub fn track_t(chunks: u64, change: impl FnOnce(&mut Track)) -> Vec<u8> {
+    node::bytes(&boxes_t(chunks, change))
+}
+
+/// Its boxes: `ftyp`, `moov`, then a `moof` and an `mdat` a chunk.
+pub fn boxes_t(chunks: u64, change: impl FnOnce(&mut Track)) -> Vec<Node> {
     let mut track = Track::example(chunks);
     change(&mut track);
-    node::bytes(&track.boxes(&mut Fill::Zeros))
+    track.boxes(&mut Fill::Zeros)
+}
+
+/// Makes a chunk continue the fragment before it.
+pub fn continues(chunk: &mut Chunk) {
+    chunk.runs[0].flags |= 0x4;
+    chunk.runs[0].first_sample_flags = NON_SYNC;
 }

@@ -1,7 +1,8 @@
 //! `flangemint report`. What a browser makes of a page is tried by tools/report-test.
 
-use crate::folder::{track_t, Folder};
+use crate::folder::{boxes_t, continues, track_t, Folder};
 use crate::run::{command, run, run_with, with_names, Ran};
+use maker::node::{self, Node};
 use maker::track::Track;
 use std::fs;
 
@@ -105,6 +106,7 @@ fn a_time_that_does_not_continue() {
         let page = page(&folder, &["a.mp4".to_owned()], 1, &place);
         assert_eq!(marks(&page), [words]);
         assert_eq!(page.matches("class=\"beyond\"").count(), beyond, "{words}");
+        assert_eq!(page.contains("An arrow stands for chunks beyond"), beyond > 0, "{words}");
         assert!(page.contains(">expected 180000</text>"));
         assert!(page.contains("moof[1]/traf/tfdt</code></td><td>◀ refused 19</td>"));
         stretches(&page, "refused").len()
@@ -138,6 +140,131 @@ fn the_chunk_or_the_header() {
     assert_eq!(marks(&page), ["refused before the first fragment"]);
     assert_eq!((stretches(&page, "refused").len(), stretches(&page, "header").len()), (1, 1));
     assert_eq!(stretches(&page, "panel").len(), 0, "a header has no time to magnify");
+}
+
+/// A refused box in no chunk is marked where it stands: between two of them, after the last, or in
+/// the chunk whose `mdat` it keeps away.
+#[test]
+fn a_box_beside_the_chunks() {
+    let folder = Folder::new("report_beside");
+    // Two fragments of two chunks; the boxes are put in at a number of the top level.
+    let marked = |late: u64, at: usize, boxes: &[Node], line: &str, words: &str| {
+        let mut all = boxes_t(4, |track| {
+            track.chunks[3].start += late;
+            [1, 3].iter().for_each(|nth| continues(&mut track.chunks[*nth]));
+        });
+        let place = node::bytes(&all[..at]).len();
+        all.splice(at..at, boxes.iter().cloned());
+        folder.put("a.mp4", &node::bytes(&all));
+        let page = page(&folder, &["a.mp4".to_owned()], 1, &format!("{line} track 0 at {place}"));
+        assert_eq!(marks(&page), [words]);
+        let (from, to) = stretches(&page, "refused")[0];
+        let bars = |class: &str| stretches(&page, class).first().copied();
+        ((from + to) / 2.0, bars("judged"), bars("read"), to - from)
+    };
+    let free = || Node::leaf(b"free", vec![]);
+    let header = boxes_t(0, |_| ());
+
+    // Between the fragments, and inside one.
+    let (x, judged, read, _) =
+        marked(0, 6, &header[..1], "refused 6", "refused between chunk 1 and chunk 2");
+    assert_near(judged.unwrap().1, x);
+    assert_near(read.unwrap().0, x);
+    let (x, judged, read, wide) =
+        marked(0, 4, &header[1..], "refused 6", "refused between chunk 0 and chunk 1");
+    let (judged, read) = (judged.unwrap(), read.unwrap());
+    assert_near(judged.1, x);
+    assert_near(read.0, x);
+    assert_near(x, judged.0 + (read.1 - judged.0) / 4.0);
+    assert!(wide < 10.0, "{wide}");
+    // The chunks before it are bad too.
+    let mdat = [Node::zeros(b"mdat", 3)];
+    let tail = "refused after chunk 3, the last one";
+    let (x, judged, read, _) = marked(1, 10, &mdat, "refused 6", tail);
+    assert!(judged.is_none() && x > read.unwrap().1, "{x}");
+    let (x, judged, ..) = marked(0, 10, &mdat, "refused 6", tail);
+    assert!(x > judged.unwrap().1, "{x}");
+
+    // Nothing is read behind a box that is badly framed.
+    let open = Node::bare(b"\0\0\0\0free".to_vec());
+    let words = "refused after chunk 1; what follows is not read";
+    let (x, judged, read, _) = marked(0, 6, &[open], "refused 3", words);
+    assert!(x > judged.unwrap().1 && read.is_none(), "{x}");
+
+    let words = "chunk 1 (of fragment 0) is refused: no mdat directly after its moof";
+    let (x, judged, read, wide) = marked(0, 5, &[free()], "refused 6", words);
+    let (judged, read) = (judged.unwrap(), read.unwrap());
+    assert_near(judged.1 - judged.0, wide);
+    assert_near(x, read.0 + wide / 2.0);
+}
+
+/// An upload that stops after a `moof`, and a `moof` after a `moof`.
+#[test]
+fn a_chunk_without_its_data() {
+    let folder = Folder::new("report_bare");
+    let mut boxes = boxes_t(3, |_| ());
+    let length = node::bytes(&boxes[..7]).len();
+    folder.put("a.mp4", &node::bytes(&boxes[..7]));
+    let names = ["a.mp4".to_owned()];
+    let stopped = page(&folder, &names, 1, &format!("refused 6 track 0 at {length}"));
+    assert_eq!(marks(&stopped), ["chunk 2 is refused: no mdat directly after its moof"]);
+    let (judged, read) = (stretches(&stopped, "judged")[0], stretches(&stopped, "read")[0]);
+    assert_near(judged.1 - judged.0, 2.0 * (read.1 - read.0));
+    assert_near(read.0, judged.1);
+
+    boxes.remove(5);
+    folder.put("a.mp4", &node::bytes(&boxes));
+    let place = node::bytes(&boxes[..5]).len();
+    let lost = page(&folder, &names, 1, &format!("refused 6 track 0 at {place}"));
+    assert_eq!(marks(&lost), ["chunk 2 is refused"]);
+    let (judged, read) = (stretches(&lost, "judged")[0], stretches(&lost, "read")[0]);
+    assert_near(2.0 * (judged.1 - judged.0), read.1 - read.0);
+    assert_near(read.0, judged.1);
+}
+
+/// The classes of the legend's entries.
+fn legend(page: &str) -> Vec<&str> {
+    let entries = page.split("figcaption>").nth(1).unwrap().split("<i class=\"").skip(1);
+    entries.map(|entry| entry.split('"').next().unwrap()).collect()
+}
+
+/// An entry is there exactly when what it explains is drawn.
+#[test]
+fn the_legend_says_what_is_drawn() {
+    let folder = Folder::new("report_legend");
+    let drawn = [
+        ("judged", "<rect class=\"judged\""),
+        ("judged parted", "<path class=\"part\""),
+        ("read", "<rect class=\"read\""),
+        ("read parted", "<path class=\"part unjudged\""),
+        ("refused", "<rect class=\"refused\""),
+    ];
+    let look = |change: fn(&mut Track)| {
+        folder.put("a.mp4", &track_t(4, change));
+        let line = run(&folder, &["check", "a.mp4"]).first_line().to_owned();
+        let status = i32::from(line.starts_with("refused"));
+        let page = page(&folder, &["a.mp4".to_owned()], status, &line);
+        let there = drawn.iter().filter(|(_, element)| page.contains(element));
+        assert_eq!(legend(&page), there.map(|(class, _)| *class).collect::<Vec<_>>(), "{line}");
+        legend(&page).join(", ")
+    };
+    assert_eq!(look(|_| ()), "judged");
+    assert_eq!(look(|track| continues(&mut track.chunks[1])), "judged, judged parted");
+    assert_eq!(look(|track| track.chunks[1].start += 1), "judged, read, refused");
+    // One judged chunk, and its fragment goes on in the refused one.
+    let open = look(|track| {
+        track.chunks[1].start += 1;
+        continues(&mut track.chunks[1]);
+    });
+    assert_eq!(open, "judged, judged parted, read, read parted, refused");
+    let later = look(|track| {
+        track.chunks[1].start += 1;
+        continues(&mut track.chunks[3]);
+    });
+    assert_eq!(later, "judged, read, read parted, refused");
+    assert_eq!(look(|track| continues(&mut track.chunks[0])), "read, refused");
+    assert_eq!(look(|track| track.trex.flags = 0x1_0000), "read, read parted, refused");
+    assert_eq!(look(|track| track.timescale = 0), "refused");
 }
 
 /// Where the lines with this class stand, the whole first and the magnified after it.
@@ -179,12 +306,28 @@ fn chunks_within_fragments() {
     assert_eq!(lines(&late, "boundary")[0].len(), 2);
     assert_eq!(lines(&late, "part")[0].len(), 4, "three, and the end of what is judged");
     assert_eq!(lines(&late, "part unjudged")[0].len(), 3);
+    assert!(!late.contains("too near to each other"), "a gap of a tick is no crowd");
 
     let names = folder.unpack("bad-low-latency-moved");
     let moved = page(&folder, &names, 1, "refused 28 track 1 at 4260");
     let words = "boundary 1 of track 1 is 46800 ticks late (0.520000 s)";
     assert_eq!(marks(&moved), [words]);
     assert!(moved.contains("<td><code>moof[5]</code></td><td>◀ refused 28</td>"));
+}
+
+/// Another number of fragments in the same time: which boundary is missing, or is one too many.
+#[test]
+fn a_boundary_that_only_one_track_has() {
+    let folder = Folder::new("report_missing");
+    let names = folder.unpack("bad-low-latency-by-time");
+    let missing = page(&folder, &names, 1, "refused 27 track 1 at 4721");
+    let words = "track 1 has no boundary at tick 180000 (2.000000 s), as track 0 has";
+    assert_eq!(marks(&missing), [words]);
+    let turned = [names[1].clone(), names[0].clone()];
+    let length = fs::metadata(folder.path(&names[0])).unwrap().len();
+    let further = page(&folder, &turned, 1, &format!("refused 27 track 1 at {length}"));
+    let words = "track 1 has a boundary at tick 180000 (2.000000 s) that track 0 has not";
+    assert_eq!(marks(&further), [words]);
 }
 
 /// Where nothing can be drawn, the row says so.
@@ -225,6 +368,17 @@ fn hundreds_of_fragments_and_sixteen_tracks() {
     assert!(page.contains("441 more are left out"), "60 of 501 are listed");
     assert!(page.contains("too near to each other"), "lines are thinned out");
     assert!(page.len() < 150_000, "{} bytes", page.len());
+}
+
+/// Unjudged chunks may be too many for a line each as well.
+#[test]
+fn hundreds_of_unjudged_chunks() {
+    let folder = Folder::new("report_many_unjudged");
+    folder.put("a.mp4", &track_t(500, |track| continues(&mut track.chunks[0])));
+    let line = run(&folder, &["check", "a.mp4"]).first_line().to_owned();
+    assert!(line.starts_with("refused 21 "), "{line}");
+    let page = page(&folder, &["a.mp4".to_owned()], 1, &line);
+    assert!(page.contains("too near to each other"), "lines are thinned out");
 }
 
 #[test]
