@@ -69,8 +69,9 @@ fn passed_to(inner: Framing, head: usize, size: usize, kind: u32) -> Step
     }
 }
 
-// Reads the box at a place of a run whose slice starts at a base, with n boxes before it, and what is inside it.
-pub fn read_box(s: &[u8], at: usize, path: Path, base: usize, n: usize) -> Step
+// Reads the box at a place of a run whose slice starts at a base, with n boxes before it, and what is inside it: a step of `read_run`, which calls it
+// and which it calls.
+fn next_box(s: &[u8], at: usize, path: Path, base: usize, n: usize) -> Step
     requires { ⌜ InReach base (now s) ⌝ }
     ensures { λ r. ⌜ Read r (now (s .entry)) at path base n ⌝ }
 {
@@ -107,7 +108,7 @@ pub fn read_run(s: &[u8], path: Path, base: usize, n: usize) -> Framing
     let mut at = 0;
     let mut count = n;
     loop {
-        match read_box(s, at, path, base, count) {
+        match next_box(s, at, path, base, count) {
             Step::Past { size, boxes, .. } => {
                 at += size;
                 count = boxes;
@@ -122,27 +123,25 @@ pub fn read_run(s: &[u8], path: Path, base: usize, n: usize) -> Framing
     }
 }
 
-// Reads the box at a place of the top level, with n boxes before it, and what is inside it.
-pub fn top_box(s: &[u8], at: usize, n: usize) -> Step
-    requires { ⌜ InReach 0 (now s) ⌝ }
-    ensures { λ r. ⌜ Read r (now (s .entry)) at Top 0 n ⌝ }
+// Reads the box as `next_box` does, outside that cycle, for callers that read one box: the compiler puts it into them.
+pub fn read_box(s: &[u8], at: usize, path: Path, base: usize, n: usize) -> Step
+    requires { ⌜ InReach base (now s) ⌝ }
+    ensures { λ r. ⌜ Read r (now (s .entry)) at path base n ⌝ }
 {
     if s.len() <= at {
         return Step::Nothing;
     }
+    let place = base + at;
     if BOX_LIMIT <= n {
-        return Step::Refused {
-            number: 5,
-            place: at,
-        };
+        return Step::Refused { number: 5, place };
     }
     let l = boxes::look(s, at);
     let Look::Good { head, size, kind } = l else {
-        return broken_step(l, at);
+        return broken_step(l, place);
     };
     let next = at + size;
     let boxes = n + 1;
-    let Inside::Container(inner) = boxes::inside(Path::Top, kind) else {
+    let Inside::Container(inner) = boxes::inside(path, kind) else {
         return Step::Past {
             head,
             size,
@@ -151,8 +150,16 @@ pub fn top_box(s: &[u8], at: usize, n: usize) -> Step
         };
     };
     let from = at + head;
-    let framed = read_run(&s[from..next], inner, from, boxes);
+    let framed = read_run(&s[from..next], inner, place + head, boxes);
     passed_to(framed, head, size, kind)
+}
+
+// Reads the box at a place of the top level, with n boxes before it, and what is inside it.
+pub fn top_box(s: &[u8], at: usize, n: usize) -> Step
+    requires { ⌜ InReach 0 (now s) ⌝ }
+    ensures { λ r. ⌜ Read r (now (s .entry)) at Top 0 n ⌝ }
+{
+    read_box(s, at, Path::Top, 0, n)
 }
 
 // How a whole slice is framed: rules 2 to 5.
