@@ -11,8 +11,8 @@ LIBRARY := $(or $(FLANGEMINT_LIB_DIR),target/native)
 ARCHIVE := $(if $(FLANGEMINT_LIB_DIR),,archive)
 
 .DEFAULT_GOAL := help
-.PHONY: help check test ground fmt archive cli test-cli c-check sentences python-test test-scripts trials player stack scribble bench \
-    slowest fuzz samples expected vectors readme report-test names
+.PHONY: help check test ground fmt archive cli test-cli c-check sentences python-test test-scripts trials sums player stack scribble bench \
+    versus profile slowest fuzz samples expected vectors readme report-test names
 
 help: ## this list
 	@awk -F ':.*## ' '/^[a-z-]+:.*## / { printf "  %-13s %s\n", $$1, $$2 }' Makefile
@@ -62,6 +62,9 @@ test-scripts: ## ./intake, ./pack, ./stream and ./flangemint as they are called:
 trials: $(ARCHIVE) ## the proved code against the Rust reference, CASES a job (cargo)
 	$(TRIALS) run --seed $(SEED) --cases $(CASES)
 
+sums: $(ARCHIVE) ## of these the long sample tables alone, CASES of them (cargo)
+	$(TRIALS) sums --seed $(SEED) --cases $(CASES)
+
 player: $(ARCHIVE) ## document 01's player over drawn sets, by the library's verdicts, CASES of them (cargo)
 	$(TRIALS) player --seed $(SEED) --cases $(CASES)
 
@@ -71,8 +74,14 @@ stack: $(ARCHIVE) ## every exported function on its worst inputs in 64 KiB (carg
 scribble: $(ARCHIVE) ## a track in pieces with a spoilt memory: no fault, CASES of them (cargo)
 	$(TRIALS) scribble --seed $(SEED) --cases $(CASES)
 
-bench: $(ARCHIVE) ## time beside the Rust reference (cargo)
-	$(TRIALS) bench
+bench: $(ARCHIVE) ## time beside the Rust reference, on rows whose names contain ROWS (cargo)
+	$(TRIALS) bench $(if $(ROWS),'$(ROWS)')
+
+versus: $(if $(BEFORE),$(ARCHIVE)) ## the same rows with the archive BEFORE, another build of the library, beside them (cargo, binutils)
+	tools/versus '$(BEFORE)' $(if $(ROWS),'$(ROWS)')
+
+profile: $(ARCHIVE) ## instructions by function, with those of the archive BEFORE where it is given (cargo, valgrind, python3)
+	tools/profile $(if $(BEFORE),'$(BEFORE)')
 
 slowest: $(ARCHIVE) ## the slowest of CASES drawn inputs a job, from 10 KiB on (cargo)
 	$(TRIALS) slowest --seed $(SEED) --cases $(CASES)

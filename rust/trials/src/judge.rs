@@ -1,5 +1,7 @@
-//! Who judges: the reference, and the archive through its wrapper.
+//! Who judges: the reference, the archive through its wrapper, and the one before it.
 
+#[cfg(before)]
+use crate::before;
 use maker::cases::Job;
 use reference::{Pieces, PiecesAnswer, Verdict};
 
@@ -28,6 +30,22 @@ impl Judge {
     pub fn archive() -> Result<Judge, String> {
         Err("no archive is linked, and the build of the wrapper said why: without it there are \
              `trials pipe` and `trials self`"
+            .to_string())
+    }
+
+    /// The archive that `tools/versus` links beside.
+    #[cfg(before)]
+    pub fn before() -> Result<Judge, String> {
+        Ok(Judge {
+            name: "archive before",
+            judge: before::judge,
+            form: || Box::<before::Pieces>::default(),
+        })
+    }
+
+    #[cfg(not(before))]
+    pub fn before() -> Result<Judge, String> {
+        Err("no archive to compare with is linked: `make versus BEFORE=ARCHIVE` does it"
             .to_string())
     }
 

@@ -1,5 +1,7 @@
 //! Tries the product against the reference.
 
+#[cfg(before)]
+mod before;
 mod bench;
 mod bench_pieces;
 mod drawn;
@@ -14,15 +16,20 @@ mod options;
 mod pieces;
 mod pipe;
 mod player;
+mod repeat;
+mod rows;
 mod run;
 #[cfg(linked)]
 mod scribble;
 mod slowest;
 mod small_stack;
 mod stack;
+mod states;
 mod streams;
+mod sums;
 mod tracks;
 mod vectors;
+mod versus;
 mod wire;
 
 use judge::Judge;
@@ -34,6 +41,8 @@ usage: trials run [--seed S] [--from K] [--cases N]
                                                    the archive's verdicts and tables, N cases a job
        trials pieces [--seed S] [--from K] [--cases N]
                                                    of these the job pieces alone
+       trials sums [--seed S] [--from K] [--cases N]
+                                                   of these the job sums alone: long sample tables
        trials player [--seed S] [--from K] [--cases N]
                                                    the player over drawn sets, by the archive's verdicts
        trials pipe [--seed S] [--from K] [--cases N] -- COMMAND..
@@ -43,8 +52,13 @@ usage: trials run [--seed S] [--from K] [--cases N]
        trials scribble [--seed S] [--from K] [--cases N]
                                                    the form that takes pieces with a spoilt memory: no fault
        trials stack                                worst inputs in 64 KiB of stack
-       trials bench                                the archive's time beside the reference's
+       trials bench [TEXT]                         the archive's time beside the reference's, on rows whose
+                                                   names contain TEXT
        trials bench pieces                         pieces beside the whole slice, alone
+       trials versus [TEXT], trials versus pieces  the same rows with the archive before beside them
+                                                   (`make versus BEFORE=ARCHIVE`)
+       trials repeat ROW JOB TIMES [archive|before|reference]
+                                                   one job on one row of the bench, for a profile
        trials slowest [--seed S] [--from K] [--cases N]
                                                    drawn inputs from 10 KiB on and crowded tracks, the slowest
                                                    beside the reference
@@ -77,6 +91,10 @@ fn dispatch(command: &str, rest: &[String]) -> Result<(), String> {
             let (seed, from, cases) = span(rest)?;
             pieces::run(Judge::archive()?, seed, from, cases)
         }
+        "sums" => {
+            let (seed, from, cases) = span(rest)?;
+            sums::run(Judge::archive()?, seed, from, cases)
+        }
         "player" => {
             let (seed, from, cases) = span(rest)?;
             player::run(Judge::archive().unwrap_or(Judge::REFERENCE), seed, from, cases)
@@ -95,8 +113,13 @@ fn dispatch(command: &str, rest: &[String]) -> Result<(), String> {
         #[cfg(not(linked))]
         "scribble" => Judge::archive().map(drop),
         "stack" => stack::stack(Judge::archive()?),
-        "bench" if rest == ["pieces"] => bench_pieces::bench(Judge::archive()?),
-        "bench" => bench::bench(Judge::archive()?),
+        "bench" => bench::bench(Judge::archive()?, text(rest)?),
+        "versus" => {
+            // Asked for first: without it there is none before either, and this says why.
+            let after = Judge::archive()?;
+            versus::versus(Judge::before()?, after, text(rest)?)
+        }
+        "repeat" => repeat::repeat(rest),
         "slowest" => {
             let (seed, from, cases) = span(rest)?;
             slowest::slowest(Judge::archive()?, seed, from, cases)
@@ -122,4 +145,13 @@ fn run_as(tried: Judge, rest: &[String]) -> Result<(), String> {
 fn span(rest: &[String]) -> Result<(u64, u64, u64), String> {
     let options = Options::parse(rest, &["seed", "from", "cases"])?;
     Ok((options.get("seed", 1), options.get("from", 0), options.get("cases", 10_000)))
+}
+
+/// One word at most, which says what rows.
+fn text(rest: &[String]) -> Result<Option<&str>, String> {
+    match rest {
+        [] => Ok(None),
+        [text] => Ok(Some(text)),
+        [_, more, ..] => Err(format!("{more}: one TEXT is enough")),
+    }
 }

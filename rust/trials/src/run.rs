@@ -4,10 +4,11 @@ use crate::drawn::Drawn;
 use crate::histogram::Histogram;
 use crate::judge::Judge;
 use crate::pieces;
+use crate::sums;
 use maker::cases::Job;
 use reference::Verdict;
 
-/// Tries cases `from` to `from + cases` of each job, that of pieces last.
+/// Tries cases `from` to `from + cases` of each job, those of pieces and of sums last.
 pub fn run(tried: Judge, seed: u64, from: u64, cases: u64) -> Result<(), String> {
     println!("trying the {}, seed {seed}, {cases} cases a job from case {from}", tried.name);
     for job in Job::ALL {
@@ -19,7 +20,8 @@ pub fn run(tried: Judge, seed: u64, from: u64, cases: u64) -> Result<(), String>
         }
         histogram.print(job.name());
     }
-    pieces::run(tried, seed, from, cases)
+    pieces::run(tried, seed, from, cases)?;
+    sums::run(tried, seed, from, cases)
 }
 
 /// Gives the verdict that all agree on, or the first difference.

@@ -21,14 +21,6 @@ pub enum Shape {
 }
 
 impl Shape {
-    pub fn name(self) -> &'static str {
-        match self {
-            Shape::FewLarge => "few large",
-            Shape::ManySmall => "many small",
-            Shape::ManyChunks => "many chunks",
-        }
-    }
-
     /// Chunks, and samples in each, for about this many bytes.
     fn plan(self, bytes: usize) -> (usize, usize) {
         match self {
@@ -61,6 +53,29 @@ pub fn full(bytes: usize, together: Together) -> Vec<Node> {
     let mut boxes = planned(bytes, (MAX_CHUNKS, 48), together).boxes(&mut Fill::Zeros);
     node::fill_up(&mut boxes, MAX_BOXES);
     boxes
+}
+
+/// A good track of about a mebibyte whose samples carry so many fields each, one to four: the size,
+/// then the duration too, the composition offset too, the flags too.
+pub fn tables(fields: usize) -> Vec<Node> {
+    const CHUNKS: usize = 8;
+    const FLAGS: [u32; 4] = [0x201, 0x301, 0xB01, 0xF01];
+    // 4 bytes a field in the run and about 6 of payload.
+    let samples = (1 << 20) / (4 * fields + 6) / CHUNKS;
+    let mut track = planned(0, (CHUNKS, samples), APART);
+    track.trex = Defaults { duration: 3000, ..Defaults::default() };
+    let mut start = 0;
+    for chunk in &mut track.chunks {
+        let run = &mut chunk.runs[0];
+        run.flags = FLAGS[fields - 1];
+        for (i, sample) in run.samples.iter_mut().enumerate() {
+            sample.size = 4 + (i % 5) as u32;
+            sample.composition = 1500 * (i % 3) as u32;
+        }
+        chunk.start = start;
+        start += run.duration(&track.trex);
+    }
+    track.boxes(&mut Fill::Zeros)
 }
 
 /// A good track with one data box of this many bytes.
@@ -218,63 +233,4 @@ pub fn bundle(tracks: &[&[Node]]) -> Vec<Node> {
         records.extend(track.iter().cloned());
     }
     records
-}
-
-/// What is wrong with a track, seen only after all else has been.
-#[derive(Clone, Copy)]
-pub enum State {
-    Good,
-    /// The last chunk ends a tick off: good by itself, rule 28 in a set.
-    OtherEnd,
-    /// In the last data box: rule 22, after every sum.
-    SpareByte,
-    /// After the last box: rule 2, or 5 in a track of 4,096 boxes.
-    StrayByte,
-}
-
-impl State {
-    pub const ALL: [State; 4] = [State::Good, State::OtherEnd, State::SpareByte, State::StrayByte];
-
-    pub fn name(self) -> &'static str {
-        match self {
-            State::Good => "good",
-            State::OtherEnd => "other end",
-            State::SpareByte => "spare byte",
-            State::StrayByte => "stray byte",
-        }
-    }
-
-    pub fn apply(self, boxes: &mut Vec<Node>) {
-        match self {
-            State::Good => (),
-            State::OtherEnd => {
-                let last = |boxes: &mut [Node], kind: &[u8; 4]| {
-                    boxes.iter().rposition(|node| node.kind == *kind).expect("a chunk's box")
-                };
-                let moof = last(boxes, b"moof");
-                let traf = last(boxes[moof].boxes(), b"traf");
-                let traf = boxes[moof].boxes()[traf].boxes();
-                let trun = last(traf, b"trun");
-                nudge_duration(traf[trun].body());
-            }
-            State::SpareByte => {
-                let mdat = boxes.iter_mut().rfind(|node| node.kind == *b"mdat");
-                match &mut mdat.expect("a data box").content {
-                    Content::Zeros(len) => *len += 1,
-                    Content::Bytes(bytes) => bytes.push(0),
-                    Content::Boxes(_) => panic!("a data box holds no boxes"),
-                }
-            }
-            State::StrayByte => boxes.push(Node::bare(vec![0])),
-        }
-    }
-}
-
-/// Changes the first sample's duration by one, where the run carries durations.
-fn nudge_duration(run: &mut [u8]) {
-    let flags = u32::from_be_bytes([0, run[1], run[2], run[3]]);
-    if flags & 0x100 != 0 {
-        let optional = [0x1, 0x4].iter().filter(|bit| flags & **bit != 0).count();
-        run[8 + 4 * optional + 3] ^= 1;
-    }
 }
