@@ -1,5 +1,5 @@
 -- Laws of `look`: each of its answers from the tests that lead there, and the bounds of any answer.
-use mathlib.Core.Path.{_≡_, sym, _∙_}
+use mathlib.Core.Path.{_≡_, refl, sym, _∙_}
 use mathlib.Core.List.{List}
 use Prim.Native.Nat.{ℕ, _+_, _-_, _<_, _≤_}
 use native.Mathlib.Omega.{arith}
@@ -53,3 +53,8 @@ module _ (s : List ℕ) (at a k : ℕ) (inner : at < length s) (left : 8 ≤ len
   unfolding look lookAt
   short h z l e eh ez el =
       simp (ne-eqb (length s - at) 0 (omega arith), le-ltb (length s - at) 8 left, ne-eqb (be4 s at) 1 (λ q. e (ea ∙ q))) (cc)
+
+  -- a size below 8 that does not stand for a long one
+  pub too-small : (a ≡ 1 → ⊥) → a < 8 → Small ≡ look s at
+  unfolding sized
+  too-small e h = short 8 a Small e refl refl (simp (lt-ltb a 8 h))

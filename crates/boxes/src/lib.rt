@@ -15,7 +15,7 @@ use rules::Inside;
 use rules::Look;
 use rules::Path;
 ghost use mathlib.Core.Path.{_≡_};
-ghost use Prim.Native.Nat.{_-_, _≤_};
+ghost use Prim.Native.Nat.{_+_, _-_, _≤_};
 ghost use lib.ListN.{length};
 ghost use Rattle.rules.specs.Boxes.{look, sized, inside};
 ghost use Rattle.boxes.specs.Bounds.{lookBounds};
@@ -35,30 +35,40 @@ fn sized(length: usize, at: usize, head: usize, size: usize, kind: u32) -> Look
     Look::Good { head, size, kind }
 }
 
-// What stands at a place of a run of boxes.
+// The header at a place that has room for a short one. Most sizes are 8 or more, and one test tells that they are neither too small nor long.
+fn read_header(s: &[u8], at: usize) -> Look
+    requires { ⌜ at + 8 ≤ length (now s) ⌝ }
+    ensures { λ r. ⌜ r ≡ look (now (s .entry)) at ⌝ }
+{
+    let short = numbers::near4(s, at);
+    let kind = numbers::near4(s, at + 4);
+    if 8 <= short {
+        return sized(s.len(), at, 8, short as usize, kind);
+    }
+    if short != 1 {
+        return Look::Small;
+    }
+    if s.len() - at < 16 {
+        return Look::Short;
+    }
+    let size = numbers::near8(s, at + 8);
+    sized(s.len(), at, 16, size as usize, kind)
+}
+
+// What stands at a place of a run of boxes. The last place with room for a header is the same all along the run, and is computed once.
 pub fn look(s: &[u8], at: usize) -> Look
     ensures { λ r. ⌜ r ≡ look (now (s .entry)) at ⌝ }
     ensures { λ r. ⌜ lookBounds r (length (now (s .entry))) at ⌝ }
 {
-    if s.len() <= at {
-        return Look::Nothing;
+    if 8 <= s.len() {
+        if at <= s.len() - 8 {
+            return read_header(s, at);
+        }
     }
-    let left = s.len() - at;
-    if left < 8 {
+    if at < s.len() {
         return Look::Short;
     }
-    let short = numbers::near4(s, at);
-    let kind = numbers::near4(s, at + 4);
-    let mut head = 8;
-    let mut size = short as usize;
-    if short == 1 {
-        if left < 16 {
-            return Look::Short;
-        }
-        head = 16;
-        size = numbers::near8(s, at + 8) as usize;
-    }
-    sized(s.len(), at, head, size, kind)
+    Look::Nothing
 }
 
 // What a box type is on a path: a type that no rule names is passed over.

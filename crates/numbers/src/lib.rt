@@ -1,7 +1,7 @@
 // Big-endian numbers at a place of a slice. `be2` to `be8` are total: a byte past the end reads as 0; `near3` to `near8` ask for a
 // place inside.
 ghost use mathlib.Core.Path.{_≡_};
-ghost use Prim.Native.Nat.{_+_, _*_, _<_, _≤_};
+ghost use Prim.Native.Nat.{_+_, _*_, _/_, _%_, _<_, _≤_};
 ghost use lib.ListN.{length};
 ghost use Rattle.numbers.specs.Numbers.{byte, be2, be3, be4, be8, has, signed, isPlace};
 
@@ -40,11 +40,25 @@ fn three(a: u8, b: u8, c: u8) -> u32
     a as u32 * 65536 + b as u32 * 256 + c as u32
 }
 
-// Four bytes as a number.
+// Four bytes as a number, the first the lowest: one load.
+fn little(a: u8, b: u8, c: u8, d: u8) -> u32
+    ensures { λ r. ⌜ r ≡ a + b * 256 + c * 65536 + d * 16777216 ⌝ }
+{
+    a as u32 + b as u32 * 256 + c as u32 * 65536 + d as u32 * 16777216
+}
+
+// The four bytes of a number the other way round: one instruction.
+fn turned(x: u32) -> u32
+    ensures { λ r. ⌜ r ≡ x % 256 * 16777216 + x / 256 % 256 * 65536 + x / 65536 % 256 * 256 + x / 16777216 ⌝ }
+{
+    x % 256 * 16777216 + x / 256 % 256 * 65536 + x / 65536 % 256 * 256 + x / 16777216
+}
+
+// Four bytes as a number. In these two steps the compiler sees a load and a turn before it puts the reader into its callers.
 fn four(a: u8, b: u8, c: u8, d: u8) -> u32
     ensures { λ r. ⌜ r ≡ a * 16777216 + b * 65536 + c * 256 + d ⌝ }
 {
-    a as u32 * 16777216 + b as u32 * 65536 + c as u32 * 256 + d as u32
+    turned(little(a, b, c, d))
 }
 
 // Two numbers of four bytes as one of eight.

@@ -1,9 +1,9 @@
--- Laws of sums over samples: one more, equal terms, a constant term, and places a step apart.
+-- Laws of sums over samples: one more, equal terms, some and some more, two columns for one, a constant term, and places a step apart.
 use mathlib.Core.Path.{_≡_, refl, sym, ap, _∙_}
 use mathlib.Core.List.{List}
 use mathlib.Core.Bool.{Bool, true, false}
 use Prim.Native.Nat.{ℕ, zero, suc, _+_, _*_, _<_, _≤_}
-use native.Mathlib.Nat.{le-antisymm, mul-suc, mul-zero, zero-mul, suc-mul, mul-le-mul-left, mul-le-mul}
+use native.Mathlib.Nat.{le-antisymm, add-zero, add-suc, suc-add, mul-add, mul-suc, mul-zero, zero-mul, suc-mul, mul-le-mul-left, mul-le-mul}
 use native.Mathlib.Numerals.{add-one}
 use native.Mathlib.Omega.{arith}
 use lib.ListN.{length}
@@ -20,9 +20,12 @@ use Rattle.runs.specs.Runs.{SmallSums, AndSamples}
 use Rattle.runs.specs.declared.Span.{Span}
 use Rattle.runs.specs.Samples.{everyFour, Summed}
 
--- a step that is whole inside as many steps
+-- a step that is whole inside as many steps, and some steps from one of them on
 pub step-inside : (from step n i l : ℕ) → i < n → from + step * n ≤ l → from + step * i + step ≤ l
 step-inside from step n i l h k = omega (arith, mul-suc step i, mul-le-mul-left step h)
+
+pub steps-inside : (from step n i k p l : ℕ) → p ≡ from + step * i → i + k ≤ n → from + step * n ≤ l → p + step * k ≤ l
+steps-inside from step n i k p l e h b = omega (arith, mul-add step i k, mul-le-mul-left step h)
 
 -- the first place, and the place one step on
 pub step-none : (from step : ℕ) → from ≡ from + step * 0
@@ -57,6 +60,39 @@ sum-same g h e (suc n) = omega (arith, sum-same g h e n, e n)
 
 pub summed-same : (g h : ℕ → ℕ) (n sum : ℕ) → ((i : ℕ) → g i ≡ h i) → Summed g n sum → Summed h n sum
 summed-same g h n sum e s = record { total = s .total ∙ sum-same g h e n; small = s .small }
+
+-- some samples, and so many more from where these end
+sum-join : (g h : ℕ → ℕ) (i : ℕ) → ((j : ℕ) → h j ≡ g (i + j)) → (k : ℕ) → sumTo g (i + k) ≡ sumTo g i + sumTo h k
+unfolding sumTo
+sum-join g h i e zero = rw (add-zero i) (omega arith)
+sum-join g h i e (suc k) = rw add-suc (omega (arith, sum-join g h i e k, e k))
+
+pub summed-join :
+    (m : List ℕ) (from step i k p s t : ℕ) → p ≡ from + step * i → Summed (everyFour m from step) i s → Summed (everyFour m p step) k t →
+    Summed (everyFour m from step) (i + k) (s + t)
+summed-join m from step i k p s t e u v =
+    record {
+      total = omega (
+        arith,
+        u .total,
+        v .total,
+        sum-join (everyFour m from step) (everyFour m p step) i (λ j. ap (be4 m) (omega (arith, mul-add step i j))) k,
+      );
+      small = omega (arith, u .small, v .small);
+    }
+
+-- numbers side by side: the first of each two, and the second
+sum-pairs : (m : List ℕ) (from n : ℕ) → sumTo (everyFour m from 4) (n + n) ≡ sumTo (everyFour m from 8) n + sumTo (everyFour m (from + 4) 8) n
+unfolding sumTo
+sum-pairs m from zero = refl
+sum-pairs m from (suc n) =
+    let first : from + 4 * (n + n) ≡ from + 8 * n = omega arith in
+    let second : from + 4 * suc (n + n) ≡ from + 4 + 8 * n = omega arith in
+    rw (suc-add, add-suc n n) (omega (arith, sum-pairs m from n, ap (be4 m) first, ap (be4 m) second))
+
+pub summed-pairs :
+    (m : List ℕ) (from n s t : ℕ) → Summed (everyFour m from 8) n s → Summed (everyFour m (from + 4) 8) n t → Summed (everyFour m from 4) (n + n) (s + t)
+summed-pairs m from n s t u v = record { total = omega (arith, u .total, v .total, sum-pairs m from n); small = omega (arith, u .small, v .small) }
 
 -- a value that all share
 sum-const : (c n : ℕ) → sumTo (λ i. c) n ≡ n * c

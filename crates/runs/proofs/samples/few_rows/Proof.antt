@@ -1,4 +1,4 @@
--- `runs::samples::pairs_inside` meets its contract. The sums are those of the samples passed, and the place a step on for each of them. Assumes nothing.
+-- `runs::samples::few_rows` meets its contract. The sums are those of the samples passed, and the place a step on for each of them. Assumes nothing.
 use mathlib.Core.Path.{_≡_}
 use Prim.Native.Nat.{_+_, _*_, _-_, _≤_}
 use native.Mathlib.Omega.{arith}
@@ -7,8 +7,8 @@ use borrow.Author.Needs.{needs}
 use denote.Ref.{now}
 use Rattle.runs.specs.Samples.{everyFour, Summed}
 use Rattle.runs.proofs.Sums.{step-inside, step-none, step-on, summed-none, summed-at, summed-end}
-use Rattle.runs.proofs.samples.pairs_inside.Statement.{statement}
-use Rattle.runs.proofs.samples.pairs_inside.Tie as tie
+use Rattle.runs.proofs.samples.few_rows.Statement.{statement}
+use Rattle.runs.proofs.samples.few_rows.Tie as tie
 
 abbrev Inv-loop : tie.InvT-loop
 Inv-loop m from step n ticks₀ bytes₀ p₀ i₀ ticks bytes p i =
@@ -67,8 +67,8 @@ returns c =
       summed-end (everyFour (now (a .m)) (a .from + 4) (a .step)) (l .i) (a .n) (l .bytes) (l .inv .3) (l .inv .0) (c .loop-test .left),
     )
 
-pub pairs-inside-spec : {M : Type 1} → statement M
-pairs-inside-spec =
+pub few-rows-spec : {M : Type 1} → statement M
+few-rows-spec =
     tie.close
     (tie.spec
     Inv-loop μ-loop loop-holds near4-requires (λ c. search needs) (λ c. omega arith) add-near4 near4-requires-2
