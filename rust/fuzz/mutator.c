@@ -1,7 +1,8 @@
 /*
  * Changes an input as a bundle of tracks of boxes: boxes and records are taken out, doubled, swapped,
  * put in, resized, retyped, given the long header or other values, and all that encloses them keeps
- * its size right. Every third change is libFuzzer's own, which knows nothing of boxes.
+ * its size right. Every third change is libFuzzer's own, which knows nothing of boxes. One input in 512 gets
+ * the crowd, whether or not it had one: it takes as long as a hundred others.
  */
 #include <stdint.h>
 #include <string.h>
@@ -10,7 +11,7 @@
 
 size_t LLVMFuzzerMutate(uint8_t *data, size_t size, size_t max);
 
-enum { MOST_BOXES = 1024, MOST_RECORDS = 20, TOP = -1, MARK_AND_LENGTH = 6 };
+enum { MOST_BOXES = 1024, MOST_RECORDS = 20, TOP = -1, MARK_AND_LENGTH = 6, SELDOM = 512 };
 
 struct box {
     size_t at, size, head;
@@ -404,19 +405,40 @@ static void change(void)
     }
 }
 
-size_t LLVMFuzzerCustomMutator(uint8_t *data, size_t size, size_t max, unsigned int seed)
+static void change_some(void)
 {
-    state = seed * 0x9e3779b97f4a7c15u + 1;
-    draw(1);
-    if (size < HEAD + 8 || draw(3) == 0)
-        return LLVMFuzzerMutate(data, size, max);
-    in.data = data;
-    in.size = size;
-    in.max = max;
     for (uint64_t times = 1 + draw(3); times > 0; times--)
         if (in.size >= HEAD + 8)
             change();
     if (draw(2) == 0)
         repair();
+}
+
+/* A crowd that brings a track to the limit of boxes, or to one less or more; of any number if none does. */
+static void crowd(void)
+{
+    in.data[0] = (uint8_t)(CROWDED + in.data[0] % 6);
+    look();
+    uint64_t number = CROWD_SPAN + draw(3) - 1 - (uint64_t)in.count;
+    if (number >= CROWD_SPAN)
+        number = draw(CROWD_SPAN);
+    in.data[2] = (uint8_t)(in.data[2] / CROWD_SPAN * CROWD_SPAN + number);
+}
+
+size_t LLVMFuzzerCustomMutator(uint8_t *data, size_t size, size_t max, unsigned int seed)
+{
+    state = seed * 0x9e3779b97f4a7c15u + 1;
+    draw(1);
+    in.data = data;
+    in.size = size;
+    in.max = max;
+    if (size < HEAD + 8 || draw(3) == 0)
+        in.size = LLVMFuzzerMutate(data, size, max);
+    else
+        change_some();
+    if (in.size >= HEAD && draw(SELDOM) == 0)
+        crowd();
+    else if (in.size > 0 && data[0] >= CROWDED)
+        data[0] -= CROWDED;
     return in.size;
 }

@@ -1,7 +1,7 @@
 /*
  * A track in pieces. The number that is the table's length in the track check says here how the slice is cut: its
  * remainder by 4 the way, the rest of it where or how long. The three arrays stand between pages that may not be
- * touched, and so does each piece.
+ * touched, and so does each piece. A long slice is not cut into very short ones, since they would take their time.
  */
 #include "pieces.h"
 
@@ -15,9 +15,11 @@ static struct {
     struct lent numbers, head, kept, piece;
 } memory;
 
+enum { LONG = 100000, NOT_SHORT = 64 };
+
 struct cut {
     unsigned way;
-    size_t n;
+    size_t n, more; /* `more` makes each of many pieces longer */
     uint64_t state;
 };
 
@@ -31,7 +33,7 @@ static uint64_t draw(struct cut *cut, uint64_t below)
 
 static struct cut cut_by(const struct split *s)
 {
-    return (struct cut){s->room % 4, s->room / 4, s->room * 0x9e3779b97f4a7c15u + 1};
+    return (struct cut){s->room % 4, s->room / 4, s->len > LONG ? NOT_SHORT : 0, s->room * 0x9e3779b97f4a7c15u + 1};
 }
 
 /* The length of the next piece. */
@@ -42,9 +44,9 @@ static size_t next(struct cut *cut, size_t left)
         length = cut->n % (left + 1);
         cut->way = 0;
     } else if (cut->way == 2) {
-        length = 1 + cut->n % 40;
+        length = cut->more + 1 + cut->n % 40;
     } else if (cut->way == 3) {
-        length = draw(cut, (size_t)2 << cut->n % 12);
+        length = cut->more + draw(cut, (size_t)2 << cut->n % 12);
     }
     return length < left ? length : left;
 }
@@ -88,14 +90,14 @@ void try_pieces(const struct split *s)
         memory.numbers = lend(NUMBERS * sizeof(uint64_t));
         memory.head = lend(HEADER);
         memory.kept = lend(KEPT);
-        memory.piece = lend(1 << 20);
+        memory.piece = lend(MOST_BYTES);
     }
     uint64_t *numbers = (uint64_t *)part(memory.numbers, NUMBERS * sizeof(uint64_t), s->at_end);
     uint8_t *head = part(memory.head, HEADER, s->at_end), *kept = part(memory.kept, KEPT, s->at_end);
     memset(numbers, 0xa5, NUMBERS * sizeof(uint64_t));
     memset(head, 0xa5, HEADER);
     memset(kept, 0xa5, KEPT);
-    struct cut cut = cut_by(s), other = {0, 0, s->room + 1};
+    struct cut cut = cut_by(s), other = {0, 0, 0, s->room + 1};
     void *form = judge_pieces_begin();
     if (!s->spoilt || s->room % 7 != 0)
         flangemint_pieces_begin(numbers);

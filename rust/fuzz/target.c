@@ -6,6 +6,10 @@
  * the rest is the slice. The table holds 7 i + 1 at i before the call. A track goes through the form that
  * takes pieces too (pieces.c), with a memory that is spoilt if byte 0 by 6 is 3 modulo 4.
  *
+ * If byte 0 by 24 is 10, a crowd of empty `free` boxes is put into the slice (crowd.c says where): rule 5's limit less
+ * 64, and byte 2 modulo 64 more. The table's length of an index then counts from four numbers a box of the limit, less
+ * 16,384, up: the longest is just enough for the limit.
+ *
  * Slice and table each stand in memory of their own, at its end or at its start, with pages around
  * it that nobody may touch. So a read or a write outside ends the run, in an archive that no
  * sanitizer has seen too.
@@ -15,6 +19,7 @@
 #include <stdlib.h>
 #include <string.h>
 
+#include "crowd.h"
 #include "flangemint.h"
 #include "lent.h"
 #include "pieces.h"
@@ -24,7 +29,7 @@ typedef void check(const uint8_t *data, size_t len, uint64_t *table, size_t room
 
 check judge_index, judge_track, judge_set;
 
-enum { JOBS = 3, MOST_ROOM = 16384, MOST_BYTES = 1 << 20, CANARY = 4 };
+enum { JOBS = 3, OWN_ROOM = 16384, MOST_ROOM = FLANGEMINT_INDEX_ROOM, CANARY = 4 };
 
 static const struct {
     const char *name;
@@ -67,14 +72,18 @@ uint64_t table_sum(const uint64_t *table, size_t room)
 
 int split_input(const uint8_t *input, size_t size, struct split *split)
 {
-    if (size < HEAD || size - HEAD > MOST_BYTES)
+    if (size < HEAD || size - HEAD > MOST_OWN)
         return 0;
     split->job = input[0] % JOBS;
     split->at_end = input[0] / JOBS % 2 == 0;
     split->spoilt = input[0] / (2 * JOBS) % 4 == 3;
-    split->room = (input[1] * 256u + input[2]) % (MOST_ROOM + 1);
+    split->room = (input[1] * 256u + input[2]) % (OWN_ROOM + 1);
     split->slice = input + HEAD;
     split->len = size - HEAD;
+    if (input[0] >= CROWDED) {
+        put_crowd(split, FLANGEMINT_MAX_BOXES - CROWD_SPAN + input[2] % CROWD_SPAN);
+        split->room += split->job == 0 ? MOST_ROOM - OWN_ROOM : 0;
+    }
     return 1;
 }
 

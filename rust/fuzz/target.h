@@ -4,8 +4,16 @@
 #include <stddef.h>
 #include <stdint.h>
 
-/* Bytes of an input before the slice. */
-enum { HEAD = 3 };
+#include "flangemint.h"
+
+/* Bytes of an input before the slice; a byte 0 from CROWDED up puts a crowd into it. */
+enum { HEAD = 3, CROWDED = 240 };
+
+/* Bytes of a slice, and how many of them may be the input's own. */
+enum { MOST_OWN = 1 << 20, MOST_BYTES = MOST_OWN + 8 * FLANGEMINT_MAX_BOXES };
+
+/* A crowd lacks 1 to so many boxes of rule 5's limit. */
+enum { CROWD_SPAN = 64 };
 
 struct split {
     unsigned job;
@@ -16,7 +24,7 @@ struct split {
     size_t len;
 };
 
-/* Takes an input apart; 0 where it is too short or too long. */
+/* Takes an input apart; 0 where it is too short or too long. The slice is good until the next call. */
 int split_input(const uint8_t *input, size_t size, struct split *split);
 
 /* The judge's verdict, and its table after the call. */

@@ -2,6 +2,9 @@
 // table after it. A case: a byte for the job (0 index, 1 track, 2 set), four bytes for the table's room, four bytes for
 // the length, and that many bytes. For job 3 it prints what the program `intake` prints for the bytes; the room is for nothing.
 // For job 4 it prints what the program `stream` prints for them; the room is the length of the pieces, or 0 for one piece.
+// For job 5 it prints nothing: its bytes, and behind them as many empty boxes `free` as the room says, stand before those of
+// the next case, so that a slice of many boxes is stored in few bytes.
+use framing::BOX_LIMIT;
 use libc::STDIN_FILENO;
 use libc::STDOUT_FILENO;
 use lines::ANSWER_ROOM;
@@ -115,34 +118,74 @@ fn run_case(job: u8, room: usize, s: &[u8], table: &mut [u64]) -> bool {
     true
 }
 
-// Reads a case and prints what it comes to; answers whether there was a whole one.
-fn next_case(bytes: &mut [u8], table: &mut [u64]) -> bool {
+// What a case leaves: so many bytes before those of the next one; or no case was there, or none that the program can take.
+enum Left {
+    Held(usize),
+    NoCase,
+}
+
+// Puts so many empty boxes `free` behind the first n bytes, where they fit.
+fn put_boxes(bytes: &mut [u8], n: usize, boxes: usize) -> Left {
+    if bytes.len() < n {
+        return Left::NoCase;
+    }
+    if (bytes.len() - n) / 8 < boxes {
+        return Left::NoCase;
+    }
+    let empty = b"\0\0\0\x08free";
+    let end = n + boxes * 8;
+    let mut at = n;
+    while at < end {
+        bytes[at] = empty[(at - n) % 8];
+        at += 1;
+    }
+    Left::Held(end)
+}
+
+// Reads a case behind the bytes that are held, and prints what it comes to.
+fn next_case(bytes: &mut [u8], held: usize, table: &mut [u64]) -> Left {
     let mut head = [0u8; 9];
     if io::read_full(STDIN_FILENO, &mut head) < 9 {
-        return false;
+        return Left::NoCase;
     }
     let room = numbers::be4(&head, 1) as usize;
     let size = numbers::be4(&head, 5) as usize;
-    if bytes.len() < size {
-        return false;
+    if bytes.len() < held {
+        return Left::NoCase;
     }
-    if io::read_full(STDIN_FILENO, &mut bytes[..size]) < size {
-        return false;
+    if bytes.len() - held < size {
+        return Left::NoCase;
     }
-    run_case(head[0], room, &bytes[..size], table)
+    let end = held + size;
+    if io::read_full(STDIN_FILENO, &mut bytes[held..end]) < size {
+        return Left::NoCase;
+    }
+    if head[0] == 5 {
+        return put_boxes(bytes, end, room);
+    }
+    if !run_case(head[0], room, &bytes[..end], table) {
+        return Left::NoCase;
+    }
+    Left::Held(0)
 }
 
 // Runs every case to the end of the input. A proved loop has to end, and nothing says that an input does: the loop counts
 // its turns down, from a number that no run uses up.
 fn run_cases(bytes: &mut [u8], table: &mut [u64]) {
+    let mut held = 0;
     let mut turns = u64::MAX;
-    while turns > 0 && next_case(bytes, table) {
+    while turns > 0 {
+        let Left::Held(n) = next_case(bytes, held, table) else {
+            return;
+        };
+        held = n;
         turns -= 1;
     }
 }
 
+// A slice of as many boxes as rule 5 allows, with all else that `intake` takes, and the index of those boxes.
 fn main() {
-    let mut bytes = [0u8; INPUT_LIMIT + 1];
-    let mut table = [0u64; 4096];
+    let mut bytes = [0u8; INPUT_LIMIT + 1 + BOX_LIMIT * 8];
+    let mut table = [0u64; BOX_LIMIT * 4];
     run_cases(&mut bytes, &mut table);
 }

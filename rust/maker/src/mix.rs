@@ -14,6 +14,9 @@ use crate::rng::Rng;
 use crate::soup::soup;
 use crate::track::Track;
 
+/// As many boxes as there may be take long to make: the chance of them, in a hundred.
+pub const SELDOM: u64 = 1;
+
 /// Draws a case of this job.
 pub fn draw(job: Job, rng: &mut Rng) -> Case {
     let (mut bytes, mut expected) = match job {
@@ -37,12 +40,12 @@ fn refused(number: u64, damaged: &Damaged) -> Answer {
 fn index(rng: &mut Rng) -> Drawn {
     let plan = Plan::draw(rng);
     if rng.chance(40) {
-        let number = rng.pick(&[2, 2, 3, 3, 4, 4, 5]);
+        let number = if rng.chance(SELDOM) { 5 } else { rng.within(2..=4) };
         let damaged = aimed(number, &plan, rng);
         return (node::bytes(&damaged.boxes), Some(refused(number, &damaged)));
     }
     let mut boxes = if rng.chance(50) { soup("", rng) } else { good(&plan, rng) };
-    if rng.chance(3) {
+    if rng.chance(SELDOM) {
         crowd(&mut boxes, MAX_BOXES, rng);
     }
     (node::bytes(&boxes), Some(Answer::listed(node::rows(&boxes))))
@@ -67,19 +70,20 @@ pub fn track_boxes(rng: &mut Rng) -> (Vec<Node>, Answer) {
         return (damaged.boxes, expected);
     }
     let mut boxes = good(&plan, rng);
-    if rng.chance(3) {
+    if rng.chance(SELDOM) {
         node::fill_up(&mut boxes, MAX_BOXES);
     }
     (boxes, accepted(&plan))
 }
 
-/// Rule 5 takes long to make and is drawn less often.
+/// Rule 5 is drawn less often than the others.
 fn some_number(rng: &mut Rng) -> u64 {
-    let number = rng.within(TRACK_NUMBERS);
-    if number == 5 && rng.chance(60) {
-        return rng.within(TRACK_NUMBERS);
+    loop {
+        let number = rng.within(TRACK_NUMBERS);
+        if number != 5 || rng.chance(10 * SELDOM) {
+            return number;
+        }
     }
-    number
 }
 
 fn set(rng: &mut Rng) -> Drawn {

@@ -6,7 +6,7 @@ use crate::damage::aimed;
 use crate::damage::framing::MAX_BOXES;
 use crate::decorate::{dressed, good};
 use crate::draw::{self, Plan};
-use crate::mix::{accepted, track_boxes};
+use crate::mix::{accepted, track_boxes, SELDOM};
 use crate::node::{self, Content, Header, Kind, Node};
 use crate::rng::Rng;
 use crate::soup::soup;
@@ -22,13 +22,13 @@ pub type Drawn = (Vec<u8>, Option<Answer>);
 /// Draws a case.
 pub fn draw(rng: &mut Rng) -> Drawn {
     let (boxes, expected) = match rng.below(100) {
-        0..=47 => known(track_boxes(rng)),
-        48..=53 => (soup("", rng), None),
-        54..=68 => known(at_limit(rng)),
-        69..=76 => known(cut_off(rng)),
-        77..=86 => spoilt_late(rng),
-        87..=93 => misplaced(rng),
-        _ => known(crowded(rng)),
+        _ if rng.chance(SELDOM) => known(crowded(rng)),
+        0..=50 => known(track_boxes(rng)),
+        51..=56 => (soup("", rng), None),
+        57..=72 => known(at_limit(rng)),
+        73..=81 => known(cut_off(rng)),
+        82..=92 => spoilt_late(rng),
+        _ => misplaced(rng),
     };
     let expected = expected.map(|expected| with_limit(expected, &boxes));
     let mut bytes = node::bytes(&boxes);
@@ -169,7 +169,11 @@ fn spoilt_late(rng: &mut Rng) -> (Vec<Node>, Option<Answer>) {
         Some(before) => Some(Answer::refused(6, before)),
         None => Some(Answer::refused(6, place)),
     };
-    let expected = match rng.below(7) {
+    let expected = match rng.below(6) {
+        _ if rng.chance(SELDOM) => {
+            node::fill_up(&mut boxes, MAX_BOXES + 1);
+            node::place_of_nth(&boxes, MAX_BOXES).map(|place| Answer::refused(5, place))
+        }
         0 => {
             let len = 1 + rng.index(7);
             boxes.push(Node::bare(rng.bytes(len)));
@@ -193,15 +197,11 @@ fn spoilt_late(rng: &mut Rng) -> (Vec<Node>, Option<Answer>) {
             boxes.push(Node::container(b"moov", Vec::new()));
             disorder(end)
         }
-        5 => {
+        _ => {
             // A `moof` behind the last, or nothing.
             let moofs = rng.within(1..=2);
             boxes.extend((0..moofs).map(|_| Node::container(b"moof", Vec::new())));
             disorder(end + 8)
-        }
-        _ => {
-            node::fill_up(&mut boxes, MAX_BOXES + 1);
-            node::place_of_nth(&boxes, MAX_BOXES).map(|place| Answer::refused(5, place))
         }
     };
     (boxes, expected)

@@ -3,8 +3,9 @@
 //! the second, which takes a track in pieces. By request 2 a `moof` with its
 //! `mdat` is a chunk, and a fragment is one or more of these.
 //!
-//! Nothing here panics, whatever the bytes are, and only `Pieces` allocates. A lent
-//! table is written on acceptance alone, and then only as far as the job fills it.
+//! Nothing here panics, whatever the bytes are. Only `Pieces` allocates, and a track of
+//! more than thirty fragments does, for its boundaries. A lent table is written on
+//! acceptance alone, and then only as far as the job fills it.
 
 #![forbid(unsafe_code)]
 

@@ -14,6 +14,8 @@ const PATIENCE: Duration = Duration::from_millis(2000);
 /// What pieces may take: so many times the whole, and so many nanoseconds for each piece.
 const TIMES: f64 = 2.0;
 const A_PIECE: f64 = 30.0;
+/// Rows of many boxes have so many.
+const BOXES: usize = 4096;
 
 pub fn bench(tried: Judge) -> Result<(), String> {
     println!("pieces beside the whole slice, nanoseconds, best of many");
@@ -35,16 +37,16 @@ pub fn rows() -> Vec<Row> {
     let row = |name, boxes, step| Row { name, boxes, step };
     let by_40 = Together(40);
     let few = large(500 << 20, Shape::FewLarge, APART);
-    let mebibyte = |together| full((1 << 20) - (250 << 10), together);
-    let small = |together| large(0, Shape::ManyChunks, together);
+    let mebibyte = |together| full(BOXES, (1 << 20) - (250 << 10), together);
+    let small = |together| large(0, Shape::ManyChunks(BOXES), together);
     vec![
-        row("500 MiB, 4,096 boxes, pieces of 64 KiB", full(500 << 20, APART), 1 << 16),
+        row("500 MiB, 4,096 boxes, pieces of 64 KiB", full(BOXES, 500 << 20, APART), 1 << 16),
         row("500 MiB, few large, pieces of 64 KiB", few, 1 << 16),
         row("1 MiB, 582 fragments, pieces of 1,500", mebibyte(APART), 1500),
         row("582 fragments, pieces of 1 byte", small(APART), 1),
-        row("4,096 boxes, pieces of 1 byte", crowded(), 1),
+        row("4,096 boxes, pieces of 1 byte", crowded(BOXES), 1),
         row("a data box of 30 KiB, pieces of 1 byte", one_data_box(30 << 10), 1),
-        row("500 MiB, 582 chunks by 40, pieces of 64 KiB", full(500 << 20, by_40), 1 << 16),
+        row("500 MiB, 582 chunks by 40, pieces of 64 KiB", full(BOXES, 500 << 20, by_40), 1 << 16),
         row("1 MiB, 582 chunks by 40, pieces of 1,500", mebibyte(by_40), 1500),
         row("582 chunks by 40, pieces of 1 byte", small(by_40), 1),
     ]

@@ -1,7 +1,7 @@
 //! `trials expect`: what the program `intake` prints for a bundle, by the reference alone.
 
 use crate::drawn::AMPLE;
-use crate::wire::MAX_BYTES;
+use crate::wire::INPUT_LIMIT;
 use reference::Verdict;
 use std::io::{Read, Write};
 use std::path::Path;
@@ -30,8 +30,8 @@ fn of_files<P: AsRef<Path>>(files: &[P]) -> Result<String, String> {
 
 /// The lines for an input of the program.
 fn lines(input: &[u8]) -> String {
-    if input.len() > MAX_BYTES {
-        return format!("input over {MAX_BYTES} bytes\n");
+    if input.len() > INPUT_LIMIT {
+        return format!("input over {INPUT_LIMIT} bytes\n");
     }
     let mut table = vec![0; AMPLE];
     let Verdict { number, track, place, count, timescale } = reference::set(input, &mut table);

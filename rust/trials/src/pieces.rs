@@ -15,7 +15,7 @@ use reference::{pieces_whole, PiecesAnswer, Verdict, MAX_BYTES};
 const STREAM: u64 = 0x7069_6563_6573;
 /// How often each case is cut.
 const CUTS: usize = 4;
-/// Room for the boundaries of every track.
+/// Room for the boundaries of every track that is drawn.
 const ROOM: usize = 600;
 /// A run of so many cases must reach every number that there is.
 const LARGE: u64 = 10_000;

@@ -4,8 +4,8 @@ use crate::drawn::AMPLE;
 use crate::judge::Judge;
 use crate::run::compare;
 use crate::states::State;
-use crate::tracks::{bundle, crowded, large, many_runs, tables, unusual, Dress, Shape};
-use crate::tracks::{Together, APART, MAX_CHUNKS};
+use crate::tracks::{bundle, chunks_in, crowded, large, many_runs, tables, unusual};
+use crate::tracks::{Dress, Shape, Together, APART};
 use maker::cases::Job;
 use maker::node::{self, Node};
 use std::cell::LazyCell;
@@ -17,9 +17,11 @@ use Track::{Crowded, Large, ManyRuns, Tables, Unusual};
 #[derive(Clone, Copy)]
 enum Track {
     Large(usize, Shape, Together),
-    Crowded,
+    /// Of so many boxes.
+    Crowded(usize),
     Unusual(Dress, Together),
-    ManyRuns,
+    /// In so many boxes.
+    ManyRuns(usize),
     Tables(usize),
 }
 
@@ -27,9 +29,9 @@ impl Track {
     fn boxes(self) -> Vec<Node> {
         match self {
             Large(bytes, shape, together) => large(bytes, shape, together),
-            Crowded => crowded(),
-            Unusual(dress, together) => unusual(dress, together),
-            ManyRuns => many_runs(),
+            Crowded(boxes) => crowded(boxes),
+            Unusual(dress, together) => unusual(BOXES, dress, together),
+            ManyRuns(boxes) => many_runs(boxes),
             Tables(fields) => tables(fields),
         }
     }
@@ -42,9 +44,12 @@ impl Track {
 
 const KIB: usize = 1 << 10;
 const MIB: usize = 1 << 20;
+/// Most rows of many boxes have so many.
+const BOXES: usize = 4096;
+const MANY: Shape = ManyChunks(BOXES);
 const BY_2: Together = Together(2);
 const BY_40: Together = Together(40);
-const ALL: Together = Together(MAX_CHUNKS);
+const ALL: Together = Together(chunks_in(BOXES));
 
 /// Each track good and damaged, by itself and behind the good one in a set; what would repeat the
 /// good one is left out.
@@ -57,17 +62,17 @@ const TRACKS: [(&str, Track); 27] = [
     ("100 MiB, many small", Large(100 * MIB, ManySmall, APART)),
     ("500 MiB, few large", Large(500 * MIB, FewLarge, APART)),
     ("500 MiB, many small", Large(500 * MIB, ManySmall, APART)),
-    ("4,096 boxes", Crowded),
-    ("582 fragments", Large(0, ManyChunks, APART)),
+    ("4,096 boxes", Crowded(BOXES)),
+    ("582 fragments", Large(0, MANY, APART)),
     ("509 fragments, a box behind", Unusual(BoxBehind, APART)),
     ("509 fragments of two runs", Unusual(TwoRuns, APART)),
     ("582 fragments, long headers", Unusual(LongHeaders, APART)),
     ("582 fragments, backwards", Unusual(Backwards, APART)),
-    ("4,070 runs", ManyRuns),
+    ("4,070 runs", ManyRuns(BOXES)),
     // The same chunks, of the same sizes: only first-sample flags differ.
-    ("582 chunks by 2", Large(0, ManyChunks, BY_2)),
-    ("582 chunks by 40", Large(0, ManyChunks, BY_40)),
-    ("582 chunks in one fragment", Large(0, ManyChunks, ALL)),
+    ("582 chunks by 2", Large(0, MANY, BY_2)),
+    ("582 chunks by 40", Large(0, MANY, BY_40)),
+    ("582 chunks in one fragment", Large(0, MANY, ALL)),
     ("509 chunks of two runs by 40", Unusual(TwoRuns, BY_40)),
     ("509 fragments, an empty run first", Unusual(EmptyRun, APART)),
     ("509 chunks by 40, an empty run first", Unusual(EmptyRun, BY_40)),

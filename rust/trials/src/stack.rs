@@ -10,11 +10,12 @@ use maker::cases::Job;
 use maker::layout::{is_container, join};
 use maker::node::{self, Header, Kind, Node};
 use maker::pieces::large_t;
+use reference::MAX_BOXES;
 use std::io::Write;
 
 const STACK: usize = 64 * 1024;
 /// More pieces than this show nothing new.
-const MOST_PIECES: usize = 200_000;
+const MOST_PIECES: usize = 2_000_000;
 
 /// An overflow ends the process; what was being tried is the last line.
 pub fn stack(tried: Judge) -> Result<(), String> {
@@ -62,13 +63,14 @@ fn pieces(tried: Judge, name: &str, bytes: &[u8], step: usize) -> Result<(), Str
 fn worst() -> Vec<(&'static str, Vec<u8>)> {
     let track = |name, boxes: Vec<Node>| (name, node::bytes(&boxes));
     let set = |name, track: Vec<Node>| (name, node::bytes(&bundle(&[&track[..]; 16])));
-    let flat = |kind: &Kind| vec![Node::leaf(kind, vec![]); reference::MAX_BOXES];
+    let flat = |kind: &Kind| vec![Node::leaf(kind, vec![]); MAX_BOXES];
     let deepest = nested("", &[b"moov", b"trak", b"mdia", b"minf", b"stbl", b"stsd"]);
     let chunk = nested("", &[b"moof", b"traf", b"trun"]);
-    let deep = |node: &Node| {
-        vec![node.clone(); reference::MAX_BOXES / node::count(std::slice::from_ref(node))]
-    };
-    let small = |together| large(0, Shape::ManyChunks, together);
+    let deep =
+        |node: &Node| vec![node.clone(); MAX_BOXES / node::count(std::slice::from_ref(node))];
+    let small = |together| large(0, Shape::ManyChunks(MAX_BOXES), together);
+    let empty_first = unusual(MAX_BOXES, Dress::EmptyRun, Together(40));
+    let runs = || many_runs(MAX_BOXES);
     vec![
         ("no bytes", Vec::new()),
         track("4,096 boxes", flat(b"free")),
@@ -76,22 +78,22 @@ fn worst() -> Vec<(&'static str, Vec<u8>)> {
         track("deepest nesting", vec![deepest.clone()]),
         track("deepest nesting, many times", deep(&deepest)),
         track("chunks of nothing, many times", deep(&chunk)),
-        track("a good track of 4,096 boxes", crowded()),
+        track("a good track of 4,096 boxes", crowded(MAX_BOXES)),
         track("a good track of 582 fragments", small(APART)),
         track("a good track of 582 chunks by 40", small(Together(40))),
         track("a good track of 582 chunks in one fragment", small(Together(MAX_CHUNKS))),
-        track("509 chunks by 40, an empty run first", unusual(Dress::EmptyRun, Together(40))),
-        track("65,536 samples in many runs", many_runs()),
+        track("509 chunks by 40, an empty run first", empty_first),
+        track("65,536 samples in 4,070 runs", runs()),
         track("long runs", large(1 << 20, Shape::ManySmall, APART)),
         track("a good track with a crowd in moov", crowded_in(&[(*b"moov", 0)], true)),
         track("a good track with a crowd in moof", crowded_in(&[(*b"moof", 1)], false)),
         track("a moov of 32,768 bytes", large_t(b"moov", Header::Short, 32_768, true)),
         track("a moof of 32,768 bytes", large_t(b"moof", Header::Long, 32_768, false)),
-        set("16 tracks of 4,096 boxes", crowded()),
+        set("16 tracks of 4,096 boxes", crowded(MAX_BOXES)),
         set("16 tracks of 582 fragments", small(APART)),
         set("16 tracks of 582 chunks by 40", small(Together(40))),
         set("16 tracks of 582 chunks in one fragment", small(Together(MAX_CHUNKS))),
-        set("16 tracks of 65,536 samples in many runs", many_runs()),
+        set("16 tracks of 65,536 samples in 4,070 runs", runs()),
         set("16 tracks of deepest nesting", deep(&deepest)),
     ]
 }

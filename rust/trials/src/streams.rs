@@ -184,8 +184,12 @@ impl Streams {
         node::fill_up(&mut boxes, reference::MAX_BOXES);
         boxes.push(Node::bare(declared(b"moof", Header::Short, OVER)));
         let bytes = node::bytes(&boxes);
-        self.add("a large moof after 4096 boxes", &bytes, 8);
-        self.add("three bytes after 4096 boxes", &bytes[..bytes.len() - 5], 4096);
+        let most = reference::MAX_BOXES;
+        let end = bytes.len() - 8;
+        self.add(&format!("{most} boxes"), &bytes[..end], 0);
+        self.add(&format!("a large moof after {most} boxes"), &bytes, 8);
+        self.add(&format!("three bytes after {most} boxes"), &bytes[..end + 3], 4096);
+        self.add(&format!("three bytes after {} boxes", most - 1), &bytes[..end - 5], 7);
     }
 }
 

@@ -5,8 +5,13 @@ use maker::node::{self, Content, Header, Node, Step};
 use maker::track::{Chunk, Defaults, Fill, Run, Sample, Track, NON_SYNC};
 use reference::MAX_BOXES;
 
-/// No more chunks fit into 4,096 boxes beside the header.
-pub const MAX_CHUNKS: usize = 582;
+/// How many chunks of one run fit into so many boxes, beside the 20 of `ftyp` and `moov`.
+pub const fn chunks_in(boxes: usize) -> usize {
+    (boxes - 20) / 7
+}
+
+/// No track has more chunks.
+pub const MAX_CHUNKS: usize = chunks_in(MAX_BOXES);
 const MAX_SAMPLES: usize = 65_536;
 
 /// How a track fills its bytes.
@@ -16,8 +21,8 @@ pub enum Shape {
     FewLarge,
     /// As many samples as fit, each with a duration and a size of its own.
     ManySmall,
-    /// Chunks and nothing but chunks, a sample each.
-    ManyChunks,
+    /// As many chunks as fit into so many boxes, a sample each.
+    ManyChunks(usize),
 }
 
 impl Shape {
@@ -31,7 +36,7 @@ impl Shape {
                 let chunks = samples.div_ceil(MAX_SAMPLES).clamp(2, MAX_CHUNKS);
                 (chunks, (samples / chunks).clamp(1, MAX_SAMPLES))
             }
-            Shape::ManyChunks => (MAX_CHUNKS, 1),
+            Shape::ManyChunks(boxes) => (chunks_in(boxes), 1),
         }
     }
 }
@@ -48,10 +53,10 @@ pub fn large(bytes: usize, shape: Shape, together: Together) -> Vec<Node> {
     planned(bytes, shape.plan(bytes), together).boxes(&mut Fill::Zeros)
 }
 
-/// A good track of about this many bytes in as many boxes and chunks as there may be.
-pub fn full(bytes: usize, together: Together) -> Vec<Node> {
-    let mut boxes = planned(bytes, (MAX_CHUNKS, 48), together).boxes(&mut Fill::Zeros);
-    node::fill_up(&mut boxes, MAX_BOXES);
+/// A good track of about this many bytes in so many boxes, as many chunks as fit.
+pub fn full(total: usize, bytes: usize, together: Together) -> Vec<Node> {
+    let mut boxes = planned(bytes, (chunks_in(total), 48), together).boxes(&mut Fill::Zeros);
+    node::fill_up(&mut boxes, total);
     boxes
 }
 
@@ -83,11 +88,11 @@ pub fn one_data_box(bytes: usize) -> Vec<Node> {
     planned(bytes, (1, 48), APART).boxes(&mut Fill::Zeros)
 }
 
-/// As many chunks of a sample each as fit, with what few encoders write.
-pub fn unusual(dress: Dress, together: Together) -> Vec<Node> {
+/// As many chunks of a sample each as fit into so many boxes, with what few encoders write.
+pub fn unusual(total: usize, dress: Dress, together: Together) -> Vec<Node> {
     let chunks = match dress {
-        Dress::BoxBehind | Dress::TwoRuns | Dress::EmptyRun => (MAX_BOXES - 20) / 8,
-        Dress::LongHeaders | Dress::Backwards => MAX_CHUNKS,
+        Dress::BoxBehind | Dress::TwoRuns | Dress::EmptyRun => (total - 20) / 8,
+        Dress::LongHeaders | Dress::Backwards => chunks_in(total),
     };
     let mut track = planned(0, (chunks, 1), together);
     for chunk in &mut track.chunks {
@@ -186,14 +191,15 @@ fn planned(bytes: usize, (chunks, samples): (usize, usize), Together(together): 
     track
 }
 
-/// A good track of 4,096 boxes, all but those of T being empty.
-pub fn crowded() -> Vec<Node> {
+/// A good track of so many boxes, all but those of T being empty.
+pub fn crowded(total: usize) -> Vec<Node> {
     let mut boxes = maker::examples::track_t();
-    node::fill_up(&mut boxes, MAX_BOXES);
+    node::fill_up(&mut boxes, total);
     boxes
 }
 
-/// A good track of 4,096 boxes with the empty ones in one container of T, before or behind its own.
+/// A good track of as many boxes as there may be, the empty ones in one container of T, before or
+/// behind its own.
 pub fn crowded_in(path: &[Step], front: bool) -> Vec<Node> {
     let track = Track::example(2);
     let mut boxes = track.boxes(&mut Fill::Zeros);
@@ -206,8 +212,8 @@ pub fn crowded_in(path: &[Step], front: bool) -> Vec<Node> {
     boxes
 }
 
-/// One chunk of 65,536 samples in as many runs as boxes allow.
-pub fn many_runs() -> Vec<Node> {
+/// One chunk of 65,536 samples in as many runs as so many boxes allow.
+pub fn many_runs(total: usize) -> Vec<Node> {
     let run = |count: usize| Run {
         version: 0,
         flags: 0x301,
@@ -216,7 +222,7 @@ pub fn many_runs() -> Vec<Node> {
         samples: vec![Sample { duration: 1, size: 1, ..Sample::default() }; count],
         offset_error: 0,
     };
-    let runs = MAX_BOXES - 20 - 6;
+    let runs = total - 20 - 6;
     let mut track = Track::example(1);
     let mut counts = vec![MAX_SAMPLES / runs; runs];
     counts[0] += MAX_SAMPLES % runs;

@@ -11,8 +11,8 @@ use std::collections::BTreeMap;
 
 /// What the drawn cases may take, so that the three files stay below 930,000 bytes.
 const BUDGET: usize = 198_140;
-/// Of the examples longer than `--max`, only so many find room.
-const LONG_EXAMPLES: usize = 4;
+/// A longer table than most cases need.
+const LONG_ROOM: usize = 4096;
 /// For each job, its share in a hundred of that, and the longest drawn case.
 const SHARES: [(Job, usize, usize); 3] =
     [(Job::Index, 20, 400), (Job::Track, 40, 1000), (Job::Set, 40, 1900)];
@@ -54,23 +54,22 @@ impl Files {
         self.count += 1;
     }
 
-    /// The examples; small accepted ones also with a table one too
-    /// short, and with the longest.
+    /// The examples that take no more than so many bytes; those that take few and are accepted also
+    /// with a table one too short, and with a long one.
     fn add_examples(&mut self, max: usize) {
-        let mut long = 0;
         for example in examples() {
             let case = &example.case;
-            if case.bytes.len() > max {
-                long += 1;
-                if long > LONG_EXAMPLES {
-                    continue;
-                }
+            let sent = wire::sent(&case.bytes);
+            if sent > max {
+                continue;
             }
             let need = case.expected.as_ref().map_or(0, |answer| answer.table.len());
             self.add(&example.name, case, need + 2);
-            if need > 0 && case.bytes.len() < 300 {
+            if need > 0 && sent < 300 {
                 self.add(&example.name, case, need - 1);
-                self.add(&example.name, case, MAX_ROOM);
+                if need < LONG_ROOM {
+                    self.add(&example.name, case, LONG_ROOM);
+                }
             }
         }
     }
@@ -89,7 +88,7 @@ impl Files {
     fn add_in_turn(&mut self, drawn: &ByNumber, cases: usize, budget: usize) {
         for turn in 0..drawn.values().map(Vec::len).max().unwrap_or(0) {
             for (name, case, room) in drawn.values().filter_map(|cases| cases.get(turn)) {
-                let length = self.cases.len() + case.bytes.len() + 9;
+                let length = self.cases.len() + wire::sent(&case.bytes);
                 if length <= budget && self.count < cases {
                     self.add(name, case, *room);
                 }

@@ -5,14 +5,28 @@
 //! numbers in 4 bytes, the length of the slice in 4 bytes, the slice. A line:
 //! the job, the verdict's five numbers, and the sum of the whole table after
 //! the call.
+//!
+//! A crowd of empty boxes `free` is not sent: job 5 has what stands before it,
+//! and how many they are in place of the table's length. It has no line; the
+//! case behind it has what stands behind the crowd.
 
 use crate::judge::Judge;
 use maker::cases::{Case, Job};
-use reference::Verdict;
+use reference::{Verdict, MAX_BOXES};
 
+/// The longest input of the program `intake`.
+pub const INPUT_LIMIT: usize = 65_536;
 /// The longest slice and the longest table that a program must take.
-pub const MAX_BYTES: usize = 65_536;
-pub const MAX_ROOM: usize = 4096;
+pub const MAX_BYTES: usize = INPUT_LIMIT + 8 * MAX_BOXES;
+pub const MAX_ROOM: usize = 4 * MAX_BOXES;
+
+/// The bytes before a crowd.
+const BEFORE: u8 = 5;
+const EMPTY: &[u8; 8] = b"\0\0\0\x08free";
+/// So many boxes are a crowd.
+const CROWD: usize = 100;
+/// What a case is longer by than its slice.
+const HEAD: usize = 9;
 
 /// The case, with a table of this length.
 pub fn put(case: &Case, room: usize, out: &mut Vec<u8>) {
@@ -21,23 +35,63 @@ pub fn put(case: &Case, room: usize, out: &mut Vec<u8>) {
 
 /// The bytes of a case of any job.
 pub fn put_bytes(job: u8, room: usize, bytes: &[u8], out: &mut Vec<u8>) {
+    let (before, boxes, behind) = parted(bytes);
+    if boxes > 0 {
+        put_part(BEFORE, boxes, before, out);
+    }
+    put_part(job, room, behind, out);
+}
+
+fn put_part(job: u8, number: usize, bytes: &[u8], out: &mut Vec<u8>) {
     out.push(job);
-    for length in [room, bytes.len()] {
-        out.extend(u32::try_from(length).expect("a short case").to_be_bytes());
+    for number in [number, bytes.len()] {
+        out.extend(u32::try_from(number).expect("a short case").to_be_bytes());
     }
     out.extend(bytes);
 }
 
+/// How many bytes are sent for a case of this slice.
+pub fn sent(bytes: &[u8]) -> usize {
+    let (before, boxes, behind) = parted(bytes);
+    let head = if boxes > 0 { 2 * HEAD } else { HEAD };
+    head + before.len() + behind.len()
+}
+
+/// What stands before the first crowd, how many boxes that is, and what stands behind; without a
+/// crowd all stands behind.
+fn parted(bytes: &[u8]) -> (&[u8], usize, &[u8]) {
+    let crowd = EMPTY.repeat(CROWD);
+    let Some(at) = bytes.windows(crowd.len()).position(|window| window == crowd) else {
+        return (&[], 0, bytes);
+    };
+    let (before, rest) = bytes.split_at(at);
+    let boxes = rest.chunks(EMPTY.len()).take_while(|chunk| chunk == EMPTY).count();
+    (before, boxes, &rest[boxes * EMPTY.len()..])
+}
+
 /// The next case and its table's length, where the bytes begin with one of those jobs.
 pub fn take(bytes: &mut &[u8]) -> Option<(Case, usize)> {
-    let (&job, rest) = bytes.split_first()?;
-    let (&room, rest) = rest.split_first_chunk()?;
-    let (&length, rest) = rest.split_first_chunk()?;
-    let [room, length] = [room, length].map(|number| u32::from_be_bytes(number) as usize);
-    let (slice, rest) = rest.split_at_checked(length)?;
+    let (mut job, mut room, mut rest) = take_part(bytes)?;
+    let mut slice = Vec::new();
+    if job == BEFORE {
+        slice.extend_from_slice(rest);
+        slice.extend(EMPTY.repeat(room));
+        (job, room, rest) = take_part(bytes)?;
+    }
+    slice.extend_from_slice(rest);
     let job = *Job::ALL.get(usize::from(job))?;
+    Some((Case { job, bytes: slice, expected: None }, room))
+}
+
+/// The job, its number and its bytes, at the start of what was sent.
+fn take_part<'a>(bytes: &mut &'a [u8]) -> Option<(u8, usize, &'a [u8])> {
+    let (&job, rest) = bytes.split_first()?;
+    let (&number, rest) = rest.split_first_chunk()?;
+    let (&length, rest) = rest.split_first_chunk()?;
+    let [number, length] = [number, length].map(|number| u32::from_be_bytes(number) as usize);
+    let (part, rest) = rest.split_at_checked(length)?;
     *bytes = rest;
-    Some((Case { job, bytes: slice.to_vec(), expected: None }, room))
+    Some((job, number, part))
 }
 
 /// The reference's verdict, and the line of a program that agrees.
@@ -85,5 +139,23 @@ mod tests {
         let (verdict, line) = answer(&case, 2);
         assert_eq!(verdict.number, 2);
         assert_eq!(line, "1 2 0 0 0 0 39");
+    }
+
+    /// A crowd and one box less than one, with something around them and by themselves.
+    #[test]
+    fn crowds() {
+        for boxes in [CROWD - 1, CROWD, 5000] {
+            for (before, behind) in [(&b""[..], &b""[..]), (b"\0\0\0\x08fre", b"\0\0\0\x08fred")] {
+                let bytes = [before, &EMPTY.repeat(boxes), behind].concat();
+                let mut out = Vec::new();
+                put_bytes(2, 3, &bytes, &mut out);
+                assert_eq!(out.len(), sent(&bytes));
+                assert_eq!(out[0], if boxes < CROWD { 2 } else { BEFORE });
+                let mut rest = &out[..];
+                let (case, room) = take(&mut rest).unwrap();
+                assert_eq!((case.job, case.bytes, room), (Job::Set, bytes, 3));
+                assert!(rest.is_empty());
+            }
+        }
     }
 }

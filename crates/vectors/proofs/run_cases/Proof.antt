@@ -6,10 +6,10 @@ use Rattle.vectors.proofs.run_cases.Statement.{statement}
 use Rattle.vectors.proofs.run_cases.Tie as tie
 
 abbrev Inv-loop : tie.InvT-loop
-Inv-loop bytes₀ table₀ turns₀ bytes table turns = (length bytes ≡ length bytes₀) × (length table ≡ length table₀)
+Inv-loop bytes₀ table₀ held₀ turns₀ bytes table held turns = (length bytes ≡ length bytes₀) × (length table ≡ length table₀)
 
 abbrev μ-loop : tie.MeasureT-loop
-μ-loop bytes₀ table₀ turns₀ bytes table turns = turns
+μ-loop bytes₀ table₀ held₀ turns₀ bytes table held turns = search needs
 
 loop-holds : tie.Need-loop-holds Inv-loop μ-loop
 loop-holds c = search needs
@@ -17,14 +17,11 @@ loop-holds c = search needs
 next-case-requires : tie.Need-next-case-requires Inv-loop μ-loop
 next-case-requires c κs = search needs
 
-sub-turns : tie.Need-sub-turns Inv-loop μ-loop
-sub-turns c = search needs
+enum-known-n : tie.Need-enum-known-n Inv-loop μ-loop
+enum-known-n c = search needs
 
-loop-less : tie.Need-loop-less Inv-loop μ-loop
-loop-less c = search needs
-
-loop-again : tie.Need-loop-again Inv-loop μ-loop
-loop-again c = search needs
+enum-told : tie.Need-enum-told Inv-loop μ-loop
+enum-told c = search needs
 
 same-length : tie.Need-same-length Inv-loop μ-loop
 same-length c = search needs
@@ -34,6 +31,15 @@ same-length-2 c = search needs
 
 returns : tie.Need-returns Inv-loop μ-loop
 returns c = search needs
+
+sub-turns : tie.Need-sub-turns Inv-loop μ-loop
+sub-turns c = search needs
+
+loop-less : tie.Need-loop-less Inv-loop μ-loop
+loop-less c = search needs
+
+loop-again : tie.Need-loop-again Inv-loop μ-loop
+loop-again c = search needs
 
 same-length-3 : tie.Need-same-length-3 Inv-loop μ-loop
 same-length-3 c = search needs
@@ -52,12 +58,14 @@ run-cases-spec =
     μ-loop
     loop-holds
     next-case-requires
-    sub-turns
-    loop-less
-    loop-again
+    enum-known-n
+    enum-told
     same-length
     same-length-2
     returns
+    sub-turns
+    loop-less
+    loop-again
     same-length-3
     same-length-4
     returns-2)

@@ -3,6 +3,7 @@
 use super::{track_t, List};
 use crate::bundle::bundle;
 use crate::cases::{Answer, Job};
+use crate::damage::framing::MAX_BOXES;
 use crate::layout::steps;
 use crate::node::{self, Header, Kind, Node};
 
@@ -124,35 +125,55 @@ impl List {
         self.add("T", Job::Index, node::bytes(&t), Answer::listed(rows));
     }
 
-    /// Rule 5, which takes long slices.
+    /// Rule 5, which takes long slices: the last box that is allowed, one more, and stray bytes.
     pub fn many_boxes(&mut self) {
-        self.boxes_accepted("4096 boxes", |boxes| node::fill_up(boxes, 4096));
+        const MOST: usize = MAX_BOXES;
+        const OVER: usize = MOST + 1;
+        const LESS: usize = MOST - 1;
+        self.boxes_accepted(&format!("{MOST} boxes"), |boxes| node::fill_up(boxes, MOST));
         let mut boxes = track_t();
-        node::fill_up(&mut boxes, 4097);
+        node::fill_up(&mut boxes, OVER);
         let bytes = node::bytes(&boxes);
-        let place = node::place_of_nth(&boxes, 4096).expect("4097 boxes");
-        self.track("4097 boxes", bytes.clone(), 5, place);
+        let place = node::place_of_nth(&boxes, MOST).expect("a box too many");
+        self.track(&format!("{OVER} boxes"), bytes.clone(), 5, place);
 
         let expected = Answer::refused(5, place).of_track(1);
         let set = bundle(&[node::bytes(&track_t()), bytes.clone()]);
-        self.add("4097 boxes in track 1", Job::Set, set, expected);
+        self.add(&format!("{OVER} boxes in track 1"), Job::Set, set, expected);
 
-        let mut children: Vec<Node> = Vec::new();
-        node::fill_up(&mut children, 4095);
-        children.push(Node::container(b"moov", vec![Node::leaf(b"free", vec![])]));
-        let expected = Answer::refused(5, 4096 * 8);
-        self.add("a child of the 4096th box", Job::Index, node::bytes(&children), expected);
-
-        let (one_byte_more, _) = bytes.split_at(place as usize + 1);
-        self.track("a stray byte after 4096 boxes", one_byte_more.to_vec(), 5, place);
+        for (after, number) in [(MOST, 5), (LESS, 2)] {
+            for stray in [1, 7] {
+                let place = place as usize - 8 * (MOST - after);
+                let bytes = [&bytes[..place], &vec![0; stray]].concat();
+                let name = format!("{stray} stray bytes after {after} boxes");
+                self.track(&name, bytes, number, place as u64);
+            }
+        }
 
         // No box is left to look for inside it, so that rule 6 has its turn.
         let mut boxes = track_t();
-        node::fill_up(&mut boxes, 4095);
+        node::fill_up(&mut boxes, LESS);
         boxes.push(Node::container(b"moof", vec![]));
         let bytes = node::bytes(&boxes);
         let end = bytes.len() as u64;
-        self.track("an empty moof as the 4096th box", bytes, 6, end);
+        self.track(&format!("an empty moof as box {MOST}"), bytes, 6, end);
+    }
+
+    /// Rule 5 in the index.
+    pub fn many_rows(&mut self) {
+        const MOST: usize = MAX_BOXES;
+        let mut boxes: Vec<Node> = Vec::new();
+        node::fill_up(&mut boxes, MOST);
+        let all = Answer::listed(node::rows(&boxes));
+        let bytes = node::bytes(&boxes);
+        let end = bytes.len() as u64;
+        let stray = [&bytes[..], &[0]].concat();
+        self.index(&format!("a stray byte after {MOST} boxes"), stray, 5, end);
+        self.add(&format!("{MOST} boxes"), Job::Index, bytes, all);
+
+        boxes.pop();
+        boxes.push(Node::container(b"moov", vec![Node::leaf(b"free", vec![])]));
+        self.index(&format!("a child of box {MOST}"), node::bytes(&boxes), 5, end);
     }
 }
 

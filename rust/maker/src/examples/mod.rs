@@ -28,6 +28,7 @@ pub fn examples() -> Vec<Example> {
     list.indexes();
     list.sets();
     list.many_boxes();
+    list.many_rows();
     list.0
 }
 

@@ -7,10 +7,10 @@ use maker::node;
 use maker::rng::Rng;
 use maker::track::{Fill, Run, Sample, Track, NON_SYNC};
 
-/// No more fragments fit into 4,096 boxes beside the header.
-const MAX_FRAGMENTS: u64 = 582;
+/// No more fragments fit into rule 5's boxes beside the header.
+const MAX_FRAGMENTS: u64 = (reference::MAX_BOXES as u64 - 20) / 7;
 
-/// Around every length at which the boundaries or the sums are kept another way.
+/// Around every length at which the boundaries or the sums are kept another way, and the longest.
 const LENGTHS: [u64; 12] = [1, 2, 7, 8, 9, 30, 31, 32, 255, 256, 257, MAX_FRAGMENTS];
 
 fn bytes(track: &Track) -> Vec<u8> {
