@@ -15,6 +15,7 @@ The library is target/native/libflangemint.so of the repository that this file i
 the file that FLANGEMINT_LIBRARY names.
 """
 
+import array
 import contextlib
 import ctypes
 import functools
@@ -131,8 +132,7 @@ def check_set(tracks):
 
 def boxes(data):
     """The boxes of a slice, parents before children, in byte order; raises Refused where it is not framed as boxes."""
-    table = (ctypes.c_uint64 * INDEX_ROOM)()
-    verdict = _call("flangemint_index", data, table)
+    verdict, table = _call("flangemint_index", data, _index_room)
     if not verdict.accepted:
         raise Refused(verdict)
     rows = (table[at : at + 4] for at in range(0, 4 * verdict.count, 4))
@@ -178,8 +178,7 @@ class Pieces:
 
 def _checked(name, data):
     """The verdict of the track or the set job, with its boundaries."""
-    table = (ctypes.c_uint64 * TRACK_ROOM)()
-    verdict = _call(name, data, table)
+    verdict, table = _call(name, data, _track_room)
     if not verdict.accepted:
         return verdict
     boundaries = tuple(table[: verdict.count + 1])
@@ -217,13 +216,28 @@ def _memory(data):
         python.PyBuffer_Release(ctypes.byref(view))
 
 
-def _call(name, data, table):
-    """Calls a job."""
+def _index_room(length):
+    """Numbers that the index of so many bytes needs at most, and some where there is no box: a box has at least 8."""
+    return min(4 * (length // 8 + 1), INDEX_ROOM)
+
+
+def _track_room(length):
+    """Numbers that a track or a set of so many bytes needs at most.
+
+    A chunk of an accepted track has at least 92: moof 8, mfhd 16, traf 8, tfhd 16, tfdt 16, trun with its offset 20,
+    mdat 8.
+    """
+    return min(length // 92 + 1, TRACK_ROOM)
+
+
+def _call(name, data, room):
+    """Calls a job; its verdict and the table that it wrote."""
     function = getattr(_library(), name)
     numbers = (ctypes.c_uint64 * 5)()
     with _memory(data) as (start, length):
-        function(start, length, table, len(table), numbers)
-    return Verdict(*numbers)
+        table = array.array("Q", [0]) * room(length)
+        function(start, length, table.buffer_info()[0], len(table), numbers)
+    return Verdict(*numbers), table
 
 
 @functools.lru_cache(maxsize=None)

@@ -19,8 +19,9 @@ use std::sync::mpsc::{channel, Receiver};
 use std::sync::{Condvar, Mutex, MutexGuard, PoisonError};
 use std::thread;
 
-/// Answers that may wait for the one before them; so many lines of JSON are little memory.
-const AHEAD: u64 = 1024;
+/// Answers that may wait for the one before them. With all boundaries that of a two-hour class has
+/// 78 KB, so that so many are 20 MB.
+const AHEAD: u64 = 256;
 
 const GONE: &str = "standard output was closed: the rest of the list is not judged";
 

@@ -4,7 +4,7 @@
 
 use crate::facts::Track;
 use crate::place::spot;
-use crate::samples::{first_flags, runs, Run, NON_SYNC};
+use crate::samples::{first_flags, runs, trex, Run, NON_SYNC};
 use crate::view::View;
 
 /// A chunk as its bytes have it. Nothing says that they are right.
@@ -32,12 +32,12 @@ impl Chunk {
 /// The chunks of a track, in byte order.
 pub fn chunks(track: &Track) -> Vec<Chunk> {
     let view = track.view();
-    let untold = untold(track);
+    let (untold, trex) = (untold(track), trex(view));
     let moofs = view.inside(None).filter(|nth| view.boxes[*nth].kind == *b"moof");
     let mut fragment = None;
     let mut known = true;
     let read = |(number, nth): (u64, usize)| {
-        let runs = if untold == Some(number) { None } else { runs(view, nth) };
+        let runs = if untold == Some(number) { None } else { runs(view, nth, trex) };
         // The track's first chunk begins a fragment in any case.
         let sync = runs.as_deref().and_then(first_flags).map(|(flags, _)| flags & NON_SYNC == 0);
         let begins = number == 0 || sync == Some(true);

@@ -41,10 +41,14 @@ pub fn first_flags(runs: &[Run]) -> Option<(u32, Source)> {
     Some(runs.iter().find(|run| run.samples > 0)?.flags)
 }
 
+/// The `trex`, looked for once a track: it may stand behind many boxes, or not at all.
+pub fn trex(view: View) -> Option<Body> {
+    Some(view.body(view.find(&[b"moov", b"mvex", b"trex"])?))
+}
+
 /// The runs of a chunk, by the number of its `moof`; `None` where a box is missing or too short.
-pub fn runs(view: View, moof: usize) -> Option<Vec<Run>> {
-    let traf = view.child(Some(moof), b"traf")?;
-    let trex = view.body(view.find(&[b"moov", b"mvex", b"trex"])?);
+pub fn runs(view: View, moof: usize, trex: Option<Body>) -> Option<Vec<Run>> {
+    let (traf, trex) = (view.child(Some(moof), b"traf")?, trex?);
     let tfhd = view.body(view.child(Some(traf), b"tfhd")?);
     let defaults = defaults(tfhd, trex)?;
     let truns = view.inside(Some(traf)).filter(|nth| view.boxes[*nth].kind == *b"trun");
@@ -140,7 +144,7 @@ mod tests {
             let moofs = view.inside(None).filter(|nth| boxes[*nth].kind == *b"moof");
             let mut at = judged.boundaries[0];
             for moof in moofs {
-                let runs = runs(view, moof).unwrap();
+                let runs = runs(view, moof, trex(view)).unwrap();
                 at += runs.iter().map(|run| run.duration).sum::<u64>();
                 let mdat = view.inside(None).find(|nth| *nth > moof).unwrap();
                 let size: u64 = runs.iter().map(|run| run.size).sum();

@@ -63,7 +63,7 @@ pub fn check_track(data: &[u8], table: &mut [u64]) -> Verdict {
 ///
 /// ```no_run
 /// let bundle = std::fs::read("bundle").unwrap();
-/// let mut boundaries = [0; flangemint::TRACK_ROOM]; // enough for every set that can be accepted
+/// let mut boundaries = vec![0; flangemint::track_room(bundle.len())]; // never too short
 /// let verdict = flangemint::check_set(&bundle, &mut boundaries);
 /// println!("{verdict}");
 /// ```

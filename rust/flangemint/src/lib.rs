@@ -19,7 +19,10 @@ pub use calls::{check_index, check_set, check_track};
 #[cfg(linked)]
 #[doc(hidden)]
 pub use calls::{pieces_answer, pieces_begin, pieces_take, Head, Kept, Numbers};
-pub use limits::{INDEX_ROOM, MAX_BOXES, MAX_BYTES, MAX_GATHERED, MAX_TRACKS, TRACK_ROOM, VERSION};
+pub use limits::{
+    index_room, track_room, INDEX_ROOM, MAX_BOXES, MAX_BYTES, MAX_GATHERED, MAX_TRACKS, TRACK_ROOM,
+    VERSION,
+};
 #[cfg(linked)]
 pub use pieces::Pieces;
 pub use refusal::{Refusal, UnknownNumber};

@@ -1,7 +1,7 @@
 //! Numbers 15 to 22: a chunk.
 
 use super::{contrast, counted, many, said, size_and_version, Contrast};
-use crate::samples::{first_flags, runs, Run, Source};
+use crate::samples::{first_flags, runs, trex, Run, Source};
 use crate::time::seconds;
 use crate::view::View;
 
@@ -116,5 +116,5 @@ fn runs_around(view: View, at: usize) -> Option<(usize, Vec<Run>)> {
     let moof = (0..=view.top(at))
         .rev()
         .find(|nth| view.boxes[*nth].depth == 0 && view.boxes[*nth].kind == *b"moof")?;
-    Some((moof, runs(view, moof)?))
+    Some((moof, runs(view, moof, trex(view))?))
 }

@@ -3,7 +3,7 @@
 use super::html;
 use super::lens;
 use super::mark::{Mark, Place};
-use super::rows::{Read, Row};
+use super::rows::Row;
 use super::scale::Scale;
 use super::svg::{shortened, width, Anchor, Svg, LETTER};
 use std::fmt::Write;
@@ -20,6 +20,8 @@ const NAME: usize = 23;
 const TOP: f64 = 34.0;
 /// Lines nearer to each other than this can't be told apart.
 const NEAREST: f64 = 2.5;
+/// A gap that is narrower can't be seen.
+const NARROWEST: f64 = 0.5;
 /// Lines between chunks keep this distance, so that the bar is still seen.
 const NEAREST_PART: f64 = 4.0;
 
@@ -196,7 +198,7 @@ pub fn bars(svg: &mut Svg, row: &Row, scale: &Scale, line: Line, drawn: &mut Dra
     if let (Some(first), Some(last)) = (row.judged.first(), row.judged.last()) {
         drawn.judged |= bar("judged", *first, *last);
     }
-    for (start, end) in joined(&row.read) {
+    for (start, end) in joined(row, scale) {
         drawn.read |= bar("read", start, end);
     }
     let mut lines = |class: &str, ticks: &[u64], nearest: f64, beyond: f64| {
@@ -249,12 +251,15 @@ fn unjudged_edges(row: &Row) -> (Vec<u64>, Vec<u64>) {
     (begun, continued)
 }
 
-/// Chunks that follow each other without a gap, as one stretch.
-fn joined(read: &[Read]) -> Vec<(u64, u64)> {
+/// Unjudged chunks that follow each other without a gap that can be seen, as one stretch.
+fn joined(row: &Row, scale: &Scale) -> Vec<(u64, u64)> {
+    let x = |ticks: u64| scale.x(row.at(ticks));
     let mut stretches: Vec<(u64, u64)> = Vec::new();
-    for one in read {
+    for one in &row.read {
         match stretches.last_mut() {
-            Some((_, end)) if *end == one.start => *end = one.end,
+            Some((_, end)) if (x(one.start) - x(*end)).abs() < NARROWEST => {
+                *end = one.end.max(*end);
+            }
             _ => stretches.push((one.start, one.end)),
         }
     }
