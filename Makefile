@@ -12,7 +12,7 @@ ARCHIVE := $(if $(FLANGEMINT_LIB_DIR),,archive)
 
 .DEFAULT_GOAL := help
 .PHONY: help check test ground fmt archive cli test-cli c-check sentences python-test test-scripts trials sums player stack scribble bench \
-    versus profile slowest fuzz samples expected vectors readme report-test names
+    linear versus profile slowest fuzz samples expected vectors readme report-test names
 
 help: ## this list
 	@awk -F ':.*## ' '/^[a-z-]+:.*## / { printf "  %-13s %s\n", $$1, $$2 }' Makefile
@@ -76,6 +76,9 @@ scribble: $(ARCHIVE) ## a track in pieces with a spoilt memory: no fault, CASES 
 
 bench: $(ARCHIVE) ## time beside the Rust reference, on rows whose names contain ROWS (cargo)
 	$(TRIALS) bench $(if $(ROWS),'$(ROWS)')
+
+linear: $(ARCHIVE) ## time a box, of tracks of 4,096, 16,384 and 65,536 boxes (cargo)
+	$(TRIALS) linear
 
 versus: $(if $(BEFORE),$(ARCHIVE)) ## the same rows with the archive BEFORE, another build of the library, beside them (cargo, binutils)
 	tools/versus '$(BEFORE)' $(if $(ROWS),'$(ROWS)')

@@ -10,7 +10,7 @@ const char *flangemint_sentence(uint64_t number) {
         "size field is 1, which announces a 16-byte header, and fewer than 16 bytes are left.",
         "The size field is 0 or 2 to 7, or a long size is under 16.",
         "The box says that it ends after its container, or after the end of the track.",
-        "4,096 boxes have been read and bytes are left for another one.",
+        "65,536 boxes have been read and bytes are left for another one.",
         "The first box is not ftyp; or ftyp, moov, moof, mdat do not come as ftyp, moov, and then pairs of "
         "moof and mdat; or something stands between a moof and its mdat; or there is no pair at all.",
         "A box that the header needs is missing, or one is there too often.",

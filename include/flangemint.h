@@ -41,7 +41,7 @@ extern "C" {
 #define FLANGEMINT_VERSION_PATCH 0
 
 #define FLANGEMINT_MAX_BYTES 1073741824 /* of a slice, a track or a bundle: rule 1 */
-#define FLANGEMINT_MAX_BOXES 4096       /* of a slice: rule 5 */
+#define FLANGEMINT_MAX_BOXES 65536      /* of a slice: rule 5 */
 #define FLANGEMINT_MAX_TRACKS 16        /* of a bundle: rule 24 */
 #define FLANGEMINT_MAX_GATHERED 32768   /* of a ftyp, moov or moof of a track in pieces: rule 29 */
 
@@ -51,7 +51,8 @@ extern "C" {
  * header, dinf, dref, stbl, stsd, stts, stsc, stsz, stco, mvex, trex), and each chunk has at least 7 (moof, mfhd,
  * traf, tfhd, tfdt, trun, mdat); a fragment has at least one chunk, and there is one boundary more than there are
  * fragments. The tracks of an accepted set share theirs. (This counts boxes; it is not proved. Were it wrong, the
- * answer would be FLANGEMINT_ROOM.)
+ * answer would be FLANGEMINT_ROOM.) That is 2 MiB for the index and 74,880 bytes for a track or a set; a slice of len
+ * bytes needs no more than 4 * (len / 8) and len / 92 + 1 numbers, as a box has at least 8 bytes and a chunk 92.
  */
 #define FLANGEMINT_INDEX_ROOM (4 * FLANGEMINT_MAX_BOXES)
 #define FLANGEMINT_TRACK_ROOM ((FLANGEMINT_MAX_BOXES - 20) / 7 + 1)
@@ -63,7 +64,7 @@ enum flangemint_number {
     FLANGEMINT_SHORT_HEADER = 2,        /* too few bytes left for a box header: the box's start */
     FLANGEMINT_SMALL_SIZE = 3,          /* box size 0, or below its own header: the box */
     FLANGEMINT_BEYOND_PARENT = 4,       /* box ends beyond its parent: the box */
-    FLANGEMINT_TOO_MANY_BOXES = 5,      /* bytes remain after 4,096 boxes: the next box's start */
+    FLANGEMINT_TOO_MANY_BOXES = 5,      /* bytes remain after 65,536 boxes: the next box's start */
     FLANGEMINT_ORDER = 6,               /* not ftyp, moov, pairs of moof and mdat: the first wrong box, or the length */
     FLANGEMINT_HEADER_COUNT = 7,        /* header box missing or extra: its container, or the first extra box */
     FLANGEMINT_HEADER_BODY = 8,         /* header box of a wrong size or version: the box */

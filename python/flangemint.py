@@ -29,7 +29,7 @@ __version__ = "0.2.0"
 
 # As in include/flangemint.h, which says how the rooms follow.
 MAX_BYTES = 1073741824
-MAX_BOXES = 4096
+MAX_BOXES = 65536
 MAX_GATHERED = 32768
 INDEX_ROOM = 4 * MAX_BOXES
 TRACK_ROOM = (MAX_BOXES - 20) // 7 + 1

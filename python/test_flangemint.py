@@ -127,6 +127,13 @@ class Module(unittest.TestCase):
         with self.assertRaises(flangemint.Refused) as refused:
             flangemint.boxes(free * (flangemint.MAX_BOXES + 1))
         self.assertEqual(refused.exception.verdict, flangemint.Verdict(5, 0, 8 * flangemint.MAX_BOXES, 0, 0))
+        full = track + free * (flangemint.MAX_BOXES - len(flangemint.boxes(track)))
+        self.assertEqual(flangemint.check_track(full), flangemint.check_track(track))
+        self.assertEqual(flangemint.check_track(full + free), flangemint.Verdict(5, 0, len(full), 0, 0))
+        # the smallest boxes there are, and then a few bytes: tables are as long as the data asks for
+        for count in (0, 1, 2, 1000):
+            self.assertEqual(len(flangemint.boxes(free * count)), count)
+            self.assertRaises(flangemint.Refused, flangemint.boxes, free * count + b"\0\0\0\x08")
         with mmap.mmap(-1, flangemint.MAX_BYTES + 1) as long:
             self.assertEqual(str(flangemint.check_track(long)), "refused 1 track 0 at 0")
             self.assertEqual(str(flangemint.check_set([long])), "refused 1 track 0 at 0")

@@ -368,14 +368,14 @@ static void repair(void)
 static void other_room(void)
 {
     uint64_t verdict[5];
-    struct split all = {in.data[0] % 3, 0, 0, 16384, in.data + HEAD, in.size - HEAD};
+    struct split all = {in.data[0] % 3, 0, 0, OWN_ROOM, in.data + HEAD, in.size - HEAD};
     judged(&all, verdict);
     if (verdict[0] != 0 || draw(4) == 0) {
-        set(1, 2, draw(3) == 0 ? draw(16385) : draw(48));
+        set(1, 2, draw(3) == 0 ? draw(OWN_ROOM + 1) : draw(48));
         return;
     }
     uint64_t need = all.job == 0 ? 4 * verdict[3] : verdict[3] + 1;
-    set(1, 2, (need + draw(3) + 16384) % 16385);
+    set(1, 2, (need + draw(3) + OWN_ROOM) % (OWN_ROOM + 1));
 }
 
 static void change(void)

@@ -29,7 +29,7 @@ typedef void check(const uint8_t *data, size_t len, uint64_t *table, size_t room
 
 check judge_index, judge_track, judge_set;
 
-enum { JOBS = 3, OWN_ROOM = 16384, MOST_ROOM = FLANGEMINT_INDEX_ROOM, CANARY = 4 };
+enum { JOBS = 3, MOST_ROOM = FLANGEMINT_INDEX_ROOM, CANARY = 4 };
 
 static const struct {
     const char *name;

@@ -12,6 +12,9 @@ enum { HEAD = 3, CROWDED = 240 };
 /* Bytes of a slice, and how many of them may be the input's own. */
 enum { MOST_OWN = 1 << 20, MOST_BYTES = MOST_OWN + 8 * FLANGEMINT_MAX_BOXES };
 
+/* The longest table that an input can ask for without a crowd, in numbers. */
+enum { OWN_ROOM = 16384 };
+
 /* A crowd lacks 1 to so many boxes of rule 5's limit. */
 enum { CROWD_SPAN = 64 };
 

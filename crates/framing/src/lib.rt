@@ -20,7 +20,7 @@ use rules::Verdict;
 pub const BYTE_LIMIT: usize = 1073741824;
 
 // Rule 5: the boxes of a slice.
-pub const BOX_LIMIT: usize = 4096;
+pub const BOX_LIMIT: usize = 65536;
 
 // What reading one box comes to: past it, with what its header tells and the boxes so far; no byte left; or a refusal.
 pub enum Step {

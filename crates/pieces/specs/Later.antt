@@ -65,8 +65,8 @@ wholes =
     (thereWhole 0 moof 32768, Framed 1)
     ∷ (thereWhole 0 moof 32769, Misframed 29 0)
     ∷ (thereWhole 0 mdat 32769, Framed 1)
-    ∷ (thereWhole 4095 moov 32769, Misframed 29 0)
-    ∷ (thereWhole 4096 moov 32769, Misframed 5 0)
+    ∷ (thereWhole 65535 moov 32769, Misframed 29 0)
+    ∷ (thereWhole 65536 moov 32769, Misframed 5 0)
     ∷ []
 
 pub whole-examples : map (λ e. e .0) wholes ≡ map (λ e. e .1) wholes

@@ -6,7 +6,8 @@ ghost use Rattle.printed.specs.Printed.{printed};
 pub const INPUT_LIMIT: usize = 65536;
 
 // The table is long enough for 65,536 bytes: an accepted chunk takes at least 92 bytes (a `moof` of 84 and the header of an
-// empty `mdat`), and a fragment has a chunk, so there are at most 712 fragments and 713 boundaries.
+// empty `mdat`), and a fragment has a chunk. Beside a record's front of 6 bytes and the least `ftyp` and `moov`, of 472, there
+// is room for at most 707 fragments, which have 708 boundaries.
 const TABLE_ROOM: usize = 1024;
 
 // A line of at most 128 bytes, and at most 21 for each number of the table, fit.

@@ -4,7 +4,7 @@ use Prim.Native.Nat.{ℕ, zero, suc, _*_}
 use mathlib.Core.List.{List, [], _∷_, _++_, map}
 use mathlib.Core.Path.{_≡_, refl}
 use lib.ListN.{take, drop}
-use Rattle.rules.specs.Kinds.{vmhd, trun, vide, soun, letters}
+use Rattle.rules.specs.Kinds.{moov, mdat, vmhd, trun, vide, soun, letters}
 use Rattle.rules.specs.Bytes.{in4, in8, zeros, boxed, headerWith, header, run, moofOf, moofOf8, chunk, trackT}
 use Rattle.rules.specs.Bytes.{flaggedChunk, syncFlags, otherFlags, threeChunks, trackU}
 use Rattle.rules.specs.Computed.{computed}
@@ -109,13 +109,17 @@ afterBoxes n s = framingRule (framing (forest Top s 0) (8 * n) n)
 
 unfoldable pub boxLimits : List (ℕ × List ℕ × Rule)
 boxLimits =
-    -- 5: the 4,096th box, and one box more
-    (4095, in4 8 ++ in4 free, Holds)
-    ∷ (4096, in4 8 ++ in4 free, Breaks 5 0 32768)
-    -- 5: no byte after 4,096 boxes; stray bytes after 4,095 (2), and after 4,096 (5, which comes before 2)
-    ∷ (4096, [], Holds)
-    ∷ (4095, zeros 7, Breaks 2 0 32760)
-    ∷ (4096, zeros 7, Breaks 5 0 32768)
+    -- 5: the 65,536th box, and one box more
+    (65535, in4 8 ++ in4 free, Holds)
+    ∷ (65536, in4 8 ++ in4 free, Breaks 5 0 524288)
+    -- 5: no byte after 65,536 boxes; stray bytes after 65,535 (2), and after 65,536 (5, which comes before 2)
+    ∷ (65536, [], Holds)
+    ∷ (65535, zeros 7, Breaks 2 0 524280)
+    ∷ (65536, zeros 7, Breaks 5 0 524288)
+    -- 5: what the 65,536th box holds is the next box, where it is a container that holds one
+    ∷ (65535, boxed moov (boxed free []), Breaks 5 0 524288)
+    ∷ (65535, boxed moov [], Holds)
+    ∷ (65535, boxed mdat (boxed free []), Holds)
     ∷ []
 
 pub box-limits : map (λ e. afterBoxes (e .0) (e .1)) boxLimits ≡ map (λ e. e .2) boxLimits

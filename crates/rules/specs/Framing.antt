@@ -16,7 +16,7 @@ abbrev pub onFraming : {A : Type 0} → Framing → (ℕ → A) → (ℕ → ℕ
 onFraming (Framed n) a b = a n
 onFraming (Misframed k p) a b = b k p
 
--- 5: bytes remain after 4,096 boxes; at one place it is tried before 2, 3 and 4
+-- 5: bytes remain after 65,536 boxes; at one place it is tried before 2, 3 and 4
 unfoldable pub rule5 : ℕ → ℕ → Framing → Framing
 rule5 n place r = when (leb boxLimit n) (Misframed 5 place) r
 

@@ -1,13 +1,13 @@
--- The limits of document 01, each by its name.
+-- The limits of documents 01 and 02, each by its name.
 use Prim.Native.Nat.{ℕ}
 
 -- rule 1: the bytes of a slice
 abbrev pub byteLimit : ℕ
 byteLimit = 1073741824
 
--- rule 5: the boxes of a slice (house)
+-- rule 5: the boxes of a slice (house; request 4)
 abbrev pub boxLimit : ℕ
-boxLimit = 4096
+boxLimit = 65536
 
 -- rule 18: the samples of a chunk (house)
 abbrev pub sampleLimit : ℕ

@@ -183,7 +183,8 @@ fn run_cases(bytes: &mut [u8], table: &mut [u64]) {
     }
 }
 
-// A slice of as many boxes as rule 5 allows, with all else that `intake` takes, and the index of those boxes.
+// The bytes hold what `intake` takes and a byte more, beside as many empty boxes as rule 5 allows; the table holds the index of
+// as many boxes.
 fn main() {
     let mut bytes = [0u8; INPUT_LIMIT + 1 + BOX_LIMIT * 8];
     let mut table = [0u64; BOX_LIMIT * 4];

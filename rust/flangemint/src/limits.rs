@@ -4,7 +4,7 @@
 pub const MAX_BYTES: usize = 1_073_741_824;
 
 /// Boxes of a slice: rule 5.
-pub const MAX_BOXES: usize = 4096;
+pub const MAX_BOXES: usize = 65_536;
 
 /// Tracks of a bundle: rule 24.
 pub const MAX_TRACKS: usize = 16;

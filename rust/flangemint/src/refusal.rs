@@ -54,7 +54,7 @@ refusals! {
     2 HeaderCut "Too few bytes are left in the parent for a box header."
     3 SizeTooSmall "The size of the box is 0 or smaller than its own header."
     4 BeyondParent "The box ends beyond its parent."
-    5 TooManyBoxes "Bytes remain after 4,096 boxes."
+    5 TooManyBoxes "Bytes remain after 65,536 boxes."
     6 TopLevelOrder "The top level is not ftyp, moov, then pairs of moof and mdat."
     7 HeaderCount "A box of the header is missing, or there is one too many."
     8 HeaderBody "A box of the header has the wrong size or version."

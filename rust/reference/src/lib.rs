@@ -3,9 +3,9 @@
 //! the second, which takes a track in pieces. By request 2 a `moof` with its
 //! `mdat` is a chunk, and a fragment is one or more of these.
 //!
-//! Nothing here panics, whatever the bytes are. Only `Pieces` allocates, and a track of
-//! more than thirty fragments does, for its boundaries. A lent table is written on
-//! acceptance alone, and then only as far as the job fills it.
+//! Nothing here panics, whatever the bytes are. `Pieces` allocates, and so does a track of
+//! more than thirty fragments, for its boundaries; nothing else does. A lent table is
+//! written on acceptance alone, and then only as far as the job fills it.
 
 #![forbid(unsafe_code)]
 
@@ -35,8 +35,8 @@ pub use verdict::Verdict;
 
 /// Rule 1: the longest slice that is looked at, track or bundle.
 pub const MAX_BYTES: usize = 1 << 30;
-/// Rule 5 (house): the most boxes in one slice.
-pub const MAX_BOXES: usize = 4096;
+/// Rule 5 (house; request 4): the most boxes in one slice.
+pub const MAX_BOXES: usize = 65_536;
 /// Rule 18 (house): the most samples in one chunk.
 pub const MAX_SAMPLES: u64 = 65_536;
 /// Rule 29: the most bytes that a `ftyp`, `moov` or `moof` of a track in pieces may declare.

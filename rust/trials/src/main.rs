@@ -11,6 +11,7 @@ mod expect;
 mod guarded;
 mod histogram;
 mod judge;
+mod linear;
 mod lines;
 mod options;
 mod pieces;
@@ -57,6 +58,7 @@ usage: trials run [--seed S] [--from K] [--cases N]
        trials bench pieces                         pieces beside the whole slice, alone
        trials versus [TEXT], trials versus pieces  the same rows with the archive before beside them
                                                    (`make versus BEFORE=ARCHIVE`)
+       trials linear                               the archive's time a box, of tracks of 4,096 to 65,536 boxes
        trials repeat ROW JOB TIMES [archive|before|reference]
                                                    one job on one row of the bench, for a profile
        trials slowest [--seed S] [--from K] [--cases N]
@@ -119,6 +121,7 @@ fn dispatch(command: &str, rest: &[String]) -> Result<(), String> {
             let after = Judge::archive()?;
             versus::versus(Judge::before()?, after, text(rest)?)
         }
+        "linear" => linear::linear(Judge::archive()?),
         "repeat" => repeat::repeat(rest),
         "slowest" => {
             let (seed, from, cases) = span(rest)?;

@@ -53,7 +53,7 @@ const ALL: Together = Together(chunks_in(BOXES));
 
 /// Each track good and damaged, by itself and behind the good one in a set; what would repeat the
 /// good one is left out.
-const TRACKS: [(&str, Track); 27] = [
+const TRACKS: [(&str, Track); 32] = [
     ("10 KiB, few large", Large(10 * KIB, FewLarge, APART)),
     ("10 KiB, many small", Large(10 * KIB, ManySmall, APART)),
     ("1 MiB, few large", Large(MIB, FewLarge, APART)),
@@ -63,12 +63,17 @@ const TRACKS: [(&str, Track); 27] = [
     ("500 MiB, few large", Large(500 * MIB, FewLarge, APART)),
     ("500 MiB, many small", Large(500 * MIB, ManySmall, APART)),
     ("4,096 boxes", Crowded(BOXES)),
+    ("16,384 boxes", Crowded(4 * BOXES)),
+    ("65,536 boxes", Crowded(16 * BOXES)),
     ("582 fragments", Large(0, MANY, APART)),
+    ("2,337 fragments", Large(0, ManyChunks(4 * BOXES), APART)),
+    ("9,359 fragments", Large(0, ManyChunks(16 * BOXES), APART)),
     ("509 fragments, a box behind", Unusual(BoxBehind, APART)),
     ("509 fragments of two runs", Unusual(TwoRuns, APART)),
     ("582 fragments, long headers", Unusual(LongHeaders, APART)),
     ("582 fragments, backwards", Unusual(Backwards, APART)),
     ("4,070 runs", ManyRuns(BOXES)),
+    ("65,510 runs", ManyRuns(16 * BOXES)),
     // The same chunks, of the same sizes: only first-sample flags differ.
     ("582 chunks by 2", Large(0, MANY, BY_2)),
     ("582 chunks by 40", Large(0, MANY, BY_40)),

@@ -150,7 +150,7 @@ fn change(numbers: &mut Numbers, rng: &mut Rng) {
     let other = numbers[rng.index(NUMBERS)];
     let small = rng.below(10);
     let any = rng.next();
-    let known = rng.pick(&[16, 4096, 32_767, 32_768, 32_769, 1 << 30, u64::MAX, 1 << 63]);
+    let known = rng.pick(&[16, 65_535, 65_536, 32_767, 32_768, 32_769, 1 << 30, u64::MAX, 1 << 63]);
     let near = [old.wrapping_add(1), old.wrapping_sub(1)];
     numbers[at] = rng.pick(&[near[0], near[1], bit, other, small, any, known]);
 }

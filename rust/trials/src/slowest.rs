@@ -7,6 +7,7 @@ use crate::judge::Judge;
 use crate::tracks::crowded_in;
 use maker::cases::Job;
 use maker::node::{self, Step};
+use reference::MAX_BOXES;
 
 const LEAST_BYTES: usize = 10 << 10;
 /// Of a call that ends sooner the call itself is most.
@@ -35,7 +36,7 @@ pub fn slowest(tried: Judge, seed: u64, from: u64, cases: u64) -> Result<(), Str
     }
     for path in node::containers(&maker::examples::track_t()) {
         for front in [true, false] {
-            let bytes = node::bytes(&crowded_in(&path, front));
+            let bytes = node::bytes(&crowded_in(MAX_BOXES, &path, front));
             let name = format!("track, a crowd {} {}", where_in(front), spelled(&path));
             all.push(timed(tried, name, Job::Track, &bytes)?);
         }

@@ -4,8 +4,8 @@ use crate::drawn::AMPLE;
 use crate::judge::Judge;
 use crate::run::compare;
 use crate::small_stack::with_stack;
-use crate::tracks::{bundle, crowded, crowded_in, large, many_runs, unusual, Dress, Shape};
-use crate::tracks::{Together, APART, MAX_CHUNKS};
+use crate::tracks::{bundle, crowded, crowded_in, large, many_runs, runs_in, runs_of_one, unusual};
+use crate::tracks::{Dress, Shape, Together, APART, MAX_CHUNKS};
 use maker::cases::Job;
 use maker::layout::{is_container, join};
 use maker::node::{self, Header, Kind, Node};
@@ -36,7 +36,7 @@ pub fn stack(tried: Judge) -> Result<(), String> {
         }
         for step in [1, 4096, usize::MAX] {
             if bytes.len() / step < MOST_PIECES {
-                pieces(tried, name, &bytes, step)?;
+                pieces(tried, &name, &bytes, step)?;
             }
         }
     }
@@ -60,42 +60,54 @@ fn pieces(tried: Judge, name: &str, bytes: &[u8], step: usize) -> Result<(), Str
     Ok(())
 }
 
-fn worst() -> Vec<(&'static str, Vec<u8>)> {
-    let track = |name, boxes: Vec<Node>| (name, node::bytes(&boxes));
-    let set = |name, track: Vec<Node>| (name, node::bytes(&bundle(&[&track[..]; 16])));
-    let flat = |kind: &Kind| vec![Node::leaf(kind, vec![]); MAX_BOXES];
-    let deepest = nested("", &[b"moov", b"trak", b"mdia", b"minf", b"stbl", b"stsd"]);
+/// Every name with its bytes.
+type Inputs = Vec<(String, Vec<u8>)>;
+
+fn worst() -> Inputs {
+    let few = vec![
+        ("no bytes", vec![]),
+        ("deepest nesting", vec![deepest()]),
+        ("long runs", large(1 << 20, Shape::ManySmall, APART)),
+        ("a moov of 32768 bytes", large_t(b"moov", Header::Short, 32_768, true)),
+        ("a moof of 32768 bytes", large_t(b"moof", Header::Long, 32_768, false)),
+    ];
+    let named = |(name, boxes): (&str, Vec<Node>)| (name.to_string(), node::bytes(&boxes));
+    let mut all: Inputs = few.into_iter().map(named).collect();
+    for (name, boxes) in crowds() {
+        all.push((format!("16 records of {name}"), node::bytes(&bundle(&[&boxes[..]; 16]))));
+        all.push((name, node::bytes(&boxes)));
+    }
+    all
+}
+
+/// As many boxes as there may be, in many ways.
+fn crowds() -> Vec<(String, Vec<Node>)> {
+    const MOST: usize = MAX_BOXES;
+    const CHUNKS: usize = MAX_CHUNKS;
+    let flat = |kind: &Kind| vec![Node::leaf(kind, vec![]); MOST];
+    let deep = |node: Node| vec![node.clone(); MOST / node::count(&[node])];
     let chunk = nested("", &[b"moof", b"traf", b"trun"]);
-    let deep =
-        |node: &Node| vec![node.clone(); MAX_BOXES / node::count(std::slice::from_ref(node))];
-    let small = |together| large(0, Shape::ManyChunks(MAX_BOXES), together);
-    let empty_first = unusual(MAX_BOXES, Dress::EmptyRun, Together(40));
-    let runs = || many_runs(MAX_BOXES);
+    let small = |together| large(0, Shape::ManyChunks(MOST), Together(together));
+    let empty_first = unusual(MOST, Dress::EmptyRun, Together(40));
     vec![
-        ("no bytes", Vec::new()),
-        track("4,096 boxes", flat(b"free")),
-        track("4,096 moov", flat(b"moov")),
-        track("deepest nesting", vec![deepest.clone()]),
-        track("deepest nesting, many times", deep(&deepest)),
-        track("chunks of nothing, many times", deep(&chunk)),
-        track("a good track of 4,096 boxes", crowded(MAX_BOXES)),
-        track("a good track of 582 fragments", small(APART)),
-        track("a good track of 582 chunks by 40", small(Together(40))),
-        track("a good track of 582 chunks in one fragment", small(Together(MAX_CHUNKS))),
-        track("509 chunks by 40, an empty run first", empty_first),
-        track("65,536 samples in 4,070 runs", runs()),
-        track("long runs", large(1 << 20, Shape::ManySmall, APART)),
-        track("a good track with a crowd in moov", crowded_in(&[(*b"moov", 0)], true)),
-        track("a good track with a crowd in moof", crowded_in(&[(*b"moof", 1)], false)),
-        track("a moov of 32,768 bytes", large_t(b"moov", Header::Short, 32_768, true)),
-        track("a moof of 32,768 bytes", large_t(b"moof", Header::Long, 32_768, false)),
-        set("16 tracks of 4,096 boxes", crowded(MAX_BOXES)),
-        set("16 tracks of 582 fragments", small(APART)),
-        set("16 tracks of 582 chunks by 40", small(Together(40))),
-        set("16 tracks of 582 chunks in one fragment", small(Together(MAX_CHUNKS))),
-        set("16 tracks of 65,536 samples in 4,070 runs", runs()),
-        set("16 tracks of deepest nesting", deep(&deepest)),
+        (format!("{MOST} boxes"), flat(b"free")),
+        (format!("{MOST} moov"), flat(b"moov")),
+        ("deepest nesting, many times".to_string(), deep(deepest())),
+        ("chunks of nothing, many times".to_string(), deep(chunk)),
+        (format!("a good track of {MOST} boxes"), crowded(MOST)),
+        (format!("{MOST} boxes, most in moov"), crowded_in(MOST, &[(*b"moov", 0)], true)),
+        (format!("{MOST} boxes, most in moof"), crowded_in(MOST, &[(*b"moof", 1)], false)),
+        (format!("a good track of {CHUNKS} fragments"), small(1)),
+        (format!("{CHUNKS} chunks by 40"), small(40)),
+        (format!("{CHUNKS} chunks in one fragment"), small(CHUNKS)),
+        ("chunks by 40, an empty run first".to_string(), empty_first),
+        (format!("65536 samples in {} runs", runs_in(MOST)), many_runs(MOST)),
+        (format!("{} runs of a sample", runs_in(MOST)), runs_of_one(MOST)),
     ]
+}
+
+fn deepest() -> Node {
+    nested("", &[b"moov", b"trak", b"mdia", b"minf", b"stbl", b"stsd"])
 }
 
 /// A box in a box in a box; the last one is empty.

@@ -11,7 +11,7 @@ pub enum State {
     OtherEnd,
     /// In the last data box: rule 22, after every sum.
     SpareByte,
-    /// After the last box: rule 2, or 5 in a track of 4,096 boxes.
+    /// After the last box: rule 2, or 5 in a track of 65,536 boxes.
     StrayByte,
 }
 

@@ -190,6 +190,9 @@ impl Streams {
         self.add(&format!("a large moof after {most} boxes"), &bytes, 8);
         self.add(&format!("three bytes after {most} boxes"), &bytes[..end + 3], 4096);
         self.add(&format!("three bytes after {} boxes", most - 1), &bytes[..end - 5], 7);
+        let moof =
+            [declared(b"moof", Header::Short, 16), declared(b"free", Header::Short, 8)].concat();
+        self.add(&format!("a child of box {most}"), &[&bytes[..end - 8], &moof].concat(), 9);
     }
 }
 

@@ -198,12 +198,11 @@ pub fn crowded(total: usize) -> Vec<Node> {
     boxes
 }
 
-/// A good track of as many boxes as there may be, the empty ones in one container of T, before or
-/// behind its own.
-pub fn crowded_in(path: &[Step], front: bool) -> Vec<Node> {
+/// A good track of so many boxes, the empty ones in one container of T, before or behind its own.
+pub fn crowded_in(total: usize, path: &[Step], front: bool) -> Vec<Node> {
     let track = Track::example(2);
     let mut boxes = track.boxes(&mut Fill::Zeros);
-    let missing = MAX_BOXES - node::count(&boxes);
+    let missing = total - node::count(&boxes);
     let crowd = (0..missing).map(|_| Node::leaf(b"free", vec![]));
     let inside = node::inside(&mut boxes, path);
     let place = if front { 0 } else { inside.len() };
@@ -214,6 +213,21 @@ pub fn crowded_in(path: &[Step], front: bool) -> Vec<Node> {
 
 /// One chunk of 65,536 samples in as many runs as so many boxes allow.
 pub fn many_runs(total: usize) -> Vec<Node> {
+    in_runs(total, MAX_SAMPLES)
+}
+
+/// One chunk of as many runs as so many boxes allow, a sample each.
+pub fn runs_of_one(total: usize) -> Vec<Node> {
+    in_runs(total, runs_in(total))
+}
+
+/// How many runs fit into so many boxes, beside the 20 of `ftyp` and `moov` and the 6 of a chunk.
+pub const fn runs_in(boxes: usize) -> usize {
+    boxes - 26
+}
+
+/// One chunk of so many samples in as many runs as so many boxes allow.
+fn in_runs(total: usize, samples: usize) -> Vec<Node> {
     let run = |count: usize| Run {
         version: 0,
         flags: 0x301,
@@ -222,10 +236,10 @@ pub fn many_runs(total: usize) -> Vec<Node> {
         samples: vec![Sample { duration: 1, size: 1, ..Sample::default() }; count],
         offset_error: 0,
     };
-    let runs = total - 20 - 6;
+    let runs = runs_in(total);
     let mut track = Track::example(1);
-    let mut counts = vec![MAX_SAMPLES / runs; runs];
-    counts[0] += MAX_SAMPLES % runs;
+    let mut counts = vec![samples / runs; runs];
+    counts[0] += samples % runs;
     track.chunks[0].runs = counts.into_iter().map(run).collect();
     track.boxes(&mut Fill::Zeros)
 }

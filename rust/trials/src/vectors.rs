@@ -9,7 +9,7 @@ use maker::cases::{Case, Job};
 use maker::examples::examples;
 use std::collections::BTreeMap;
 
-/// What the drawn cases may take, so that the three files stay below 930,000 bytes.
+/// What the drawn cases may take, so that the three files stay below 800,000 bytes.
 const BUDGET: usize = 198_140;
 /// A longer table than most cases need.
 const LONG_ROOM: usize = 4096;

@@ -8,7 +8,7 @@
 //!
 //! A crowd of empty boxes `free` is not sent: job 5 has what stands before it,
 //! and how many they are in place of the table's length. It has no line; the
-//! case behind it has what stands behind the crowd.
+//! case behind it, or another crowd, has what stands behind.
 
 use crate::judge::Judge;
 use maker::cases::{Case, Job};
@@ -35,11 +35,12 @@ pub fn put(case: &Case, room: usize, out: &mut Vec<u8>) {
 
 /// The bytes of a case of any job.
 pub fn put_bytes(job: u8, room: usize, bytes: &[u8], out: &mut Vec<u8>) {
-    let (before, boxes, behind) = parted(bytes);
-    if boxes > 0 {
+    let mut rest = bytes;
+    while let Some((before, boxes, behind)) = parted(rest) {
         put_part(BEFORE, boxes, before, out);
+        rest = behind;
     }
-    put_part(job, room, behind, out);
+    put_part(job, room, rest, out);
 }
 
 fn put_part(job: u8, number: usize, bytes: &[u8], out: &mut Vec<u8>) {
@@ -52,28 +53,29 @@ fn put_part(job: u8, number: usize, bytes: &[u8], out: &mut Vec<u8>) {
 
 /// How many bytes are sent for a case of this slice.
 pub fn sent(bytes: &[u8]) -> usize {
-    let (before, boxes, behind) = parted(bytes);
-    let head = if boxes > 0 { 2 * HEAD } else { HEAD };
-    head + before.len() + behind.len()
+    let mut rest = bytes;
+    let mut sent = HEAD;
+    while let Some((before, _, behind)) = parted(rest) {
+        sent += HEAD + before.len();
+        rest = behind;
+    }
+    sent + rest.len()
 }
 
-/// What stands before the first crowd, how many boxes that is, and what stands behind; without a
-/// crowd all stands behind.
-fn parted(bytes: &[u8]) -> (&[u8], usize, &[u8]) {
+/// What stands before the first crowd, how many boxes that is, and what stands behind.
+fn parted(bytes: &[u8]) -> Option<(&[u8], usize, &[u8])> {
     let crowd = EMPTY.repeat(CROWD);
-    let Some(at) = bytes.windows(crowd.len()).position(|window| window == crowd) else {
-        return (&[], 0, bytes);
-    };
+    let at = bytes.windows(crowd.len()).position(|window| window == crowd)?;
     let (before, rest) = bytes.split_at(at);
     let boxes = rest.chunks(EMPTY.len()).take_while(|chunk| chunk == EMPTY).count();
-    (before, boxes, &rest[boxes * EMPTY.len()..])
+    Some((before, boxes, &rest[boxes * EMPTY.len()..]))
 }
 
 /// The next case and its table's length, where the bytes begin with one of those jobs.
 pub fn take(bytes: &mut &[u8]) -> Option<(Case, usize)> {
     let (mut job, mut room, mut rest) = take_part(bytes)?;
     let mut slice = Vec::new();
-    if job == BEFORE {
+    while job == BEFORE {
         slice.extend_from_slice(rest);
         slice.extend(EMPTY.repeat(room));
         (job, room, rest) = take_part(bytes)?;
@@ -141,11 +143,15 @@ mod tests {
         assert_eq!(line, "1 2 0 0 0 0 39");
     }
 
-    /// A crowd and one box less than one, with something around them and by themselves.
+    /// A crowd and one box less than one, with something around them and by themselves, once and twice.
     #[test]
     fn crowds() {
         for boxes in [CROWD - 1, CROWD, 5000] {
-            for (before, behind) in [(&b""[..], &b""[..]), (b"\0\0\0\x08fre", b"\0\0\0\x08fred")] {
+            for (before, behind) in [
+                (&b""[..], &b""[..]),
+                (b"\0\0\0\x08fre", b"\0\0\0\x08fred"),
+                (b"-", &[b"-", &EMPTY.repeat(boxes)[..], b"-"].concat()),
+            ] {
                 let bytes = [before, &EMPTY.repeat(boxes), behind].concat();
                 let mut out = Vec::new();
                 put_bytes(2, 3, &bytes, &mut out);

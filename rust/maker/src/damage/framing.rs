@@ -62,7 +62,8 @@ fn size_too_large(rng: &mut Rng) -> Vec<u8> {
     [&[0, 0, 0, 1], &rng.bytes(4)[..], &size.to_be_bytes(), &after].concat()
 }
 
-pub const MAX_BOXES: usize = 4096;
+/// Rule 5's limit.
+pub const MAX_BOXES: usize = 65_536;
 
 /// Rule 5: empty boxes somewhere, until the last box or some bytes are too many.
 pub fn too_many(boxes: &mut Vec<Node>, rng: &mut Rng) -> u64 {

@@ -1,6 +1,6 @@
 //! Rules 2 to 6, and the index.
 
-use super::{track_t, List};
+use super::{t_accepted, track_t, List};
 use crate::bundle::bundle;
 use crate::cases::{Answer, Job};
 use crate::damage::framing::MAX_BOXES;
@@ -140,13 +140,16 @@ impl List {
         let expected = Answer::refused(5, place).of_track(1);
         let set = bundle(&[node::bytes(&track_t()), bytes.clone()]);
         self.add(&format!("{OVER} boxes in track 1"), Job::Set, set, expected);
+        let mut half = track_t();
+        node::fill_up(&mut half, MOST / 2 + 100);
+        let set = bundle(&[node::bytes(&half), node::bytes(&half)]);
+        self.add(&format!("{} boxes in two tracks", MOST + 200), Job::Set, set, t_accepted());
 
         for (after, number) in [(MOST, 5), (LESS, 2)] {
-            for stray in [1, 7] {
+            for (stray, name) in [(1, "a stray byte"), (7, "seven stray bytes")] {
                 let place = place as usize - 8 * (MOST - after);
                 let bytes = [&bytes[..place], &vec![0; stray]].concat();
-                let name = format!("{stray} stray bytes after {after} boxes");
-                self.track(&name, bytes, number, place as u64);
+                self.track(&format!("{name} after {after} boxes"), bytes, number, place as u64);
             }
         }
 
@@ -169,6 +172,8 @@ impl List {
         let end = bytes.len() as u64;
         let stray = [&bytes[..], &[0]].concat();
         self.index(&format!("a stray byte after {MOST} boxes"), stray, 5, end);
+        let over = [&bytes[..], &short(8)].concat();
+        self.index(&format!("{} boxes", MOST + 1), over, 5, end);
         self.add(&format!("{MOST} boxes"), Job::Index, bytes, all);
 
         boxes.pop();
