@@ -1,21 +1,13 @@
-// A second look at a chunk, by the bytes of its `moof`: its start, and whether its first sample is a sync sample, whatever they hold; and, of a good one, its
-// earliest presentation time.
-ghost use Rattle.std.specs.Prelude.{◌≡◌, ◌≤◌, length, pos};
-ghost use Rattle.std.proofs.Math.Option.{some};
+// A second look at a chunk, by the bytes of its `moof`, whatever they hold: its start, and whether its first sample is a sync sample.
+ghost use Rattle.std.specs.Prelude.{◌≡◌, ◌≤◌, length};
 ghost use Rattle.rules.specs.Limits.{byte_limit};
 ghost use Rattle.rules.specs.Counts.{child};
 ghost use Rattle.rules.specs.Chunk.{traf_in, tfhd_in, start_of, defaults_in, sync_in};
-ghost use Rattle.rules.specs.Times.{times_in, least_of};
 ghost use Rattle.boxes.specs.Stands.{Stands, WholeBox, StandsAt};
-ghost use Rattle.chunk.specs.Answers.{GoodTimes};
 
-use crate::bodies;
-use crate::values::shown_at;
 use boxes::kinds::{TFDT, TFHD, TRAF};
-use rules::{Defaults, Header, Look, Spot};
-use runs::Runs;
+use rules::{Defaults, Look, Spot};
 use runs::layout::bytes_for;
-use runs::times::Origin;
 
 // The first box of a type in the container that stands there, or the container itself where there is none.
 fn first_child(m: &[u8], x: Spot, w: u32) -> Spot
@@ -91,31 +83,4 @@ pub fn sync_in(m: &[u8], traf: Spot, d: Defaults) -> bool
     };
     let end = traf.at + traf.size;
     runs::again::first_sync(m, &m[..end], traf.at + traf.head, own)
-}
-
-// The earliest presentation time of a good chunk.
-pub fn earliest_in(m: &[u8], traf: Spot, h: Header) -> u64
-    requires { StandsAt m.now (traf_in m.now) traf × (length m.now ≤ byte_limit) × GoodTimes m.now h }
-    ensures { least_of (times_in m.now h.defaults h.media) ≡ some (pos result) }
-{
-    let tfhd = first_child(m, traf, TFHD);
-    let read = bodies::read_tfhd(m, tfhd, h.defaults);
-    let bodies::Tfhd::Of { own, .. } = read else {
-        return 0;
-    };
-    let end = traf.at + traf.size;
-    let from = Origin {
-        byte: 0,
-        tick: start_in(m, traf),
-        media: h.media,
-    };
-    let all = runs::walk(m, &m[..end], traf.at + traf.head, true, own, from);
-    match all {
-        Runs::Wrong(_) => 0,
-        Runs::Of(t) => {
-            let times = t.span.times;
-            let least = times.least;
-            shown_at(least, h.media)
-        }
-    }
 }

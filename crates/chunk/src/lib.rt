@@ -1,4 +1,4 @@
-// One chunk: rules 14 to 22 and 31 over the bytes of its `moof`.
+// One chunk: rules 14 to 22 over the bytes of its `moof`.
 ghost use Rattle.std.specs.Prelude.{◌≡◌, ◌≤◌, length};
 ghost use Rattle.rules.specs.Limits.{byte_limit};
 ghost use Rattle.rules.specs.Counts.{counts};
@@ -12,20 +12,18 @@ use bodies::{BodyValues, InMoof};
 use boxes::kinds::{MFHD, TFDT, TFHD, TRAF, TRUN};
 use rules::{Entry, Header, Previous, Rule, Spot};
 use runs::Runs;
-use runs::times::Origin;
 
 pub mod again;
 mod bodies;
 mod layout;
 mod values;
 
-// A good chunk's start and end, whether its first sample is a sync sample, and its earliest presentation time.
+// A good chunk's start and end, and whether its first sample is a sync sample.
 #[derive(Drop)]
 pub struct Interval {
     pub start: u64,
     pub end: u64,
     pub sync: bool,
-    pub earliest: u64,
 }
 
 // A chunk is good, or a rule breaks with its number and its place in the `moof`.
@@ -35,7 +33,7 @@ pub enum Chunk {
     Refused { number: u64, place: u64 },
 }
 
-// The runs of a chunk whose other bodies are read, then rules 16 to 22 and 31.
+// The runs of a chunk whose other bodies are read, then rules 16 to 22.
 fn settle(
     m: &[u8],
     x: InMoof,
@@ -51,12 +49,7 @@ fn settle(
 {
     let end = x.traf.at + x.traf.size;
     let worth = values::worth_summing(k, h.id, prev);
-    let from = Origin {
-        byte: m.len() as u64 + head,
-        tick: k.start,
-        media: h.media,
-    };
-    let all = runs::walk(m, &m[..end], x.run.at, worth, k.own, from);
+    let all = runs::walk(m, &m[..end], x.run.at, worth, k.own, m.len() as u64 + head);
     match all {
         Runs::Wrong(place) => Chunk::Refused { number: 15, place },
         Runs::Of(t) => {
@@ -133,7 +126,7 @@ fn in_traf(
     }
 }
 
-// Rules 14 to 22 and 31 of the chunk whose `moof` has the bytes m, with the length of its header, the header length and the payload length
+// Rules 14 to 22 of the chunk whose `moof` has the bytes m, with the length of its header, the header length and the payload length
 // of its `mdat`, what the track's header tells, and the previous end.
 pub fn check_chunk(
     m: &[u8],

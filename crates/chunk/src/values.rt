@@ -1,19 +1,19 @@
-// Rules 16 to 22 and 31, by what was read.
+// Rules 16 to 22, by what was read.
 ghost use Rattle.std.specs.Prelude.{◌≡◌, true, ◌&&◌, [], ◌+◌, ◌*◌, ◌≤◌, length, eqb};
 ghost use Rattle.rules.specs.Limits.{sample_limit};
 ghost use Rattle.rules.specs.Rules.{◌then◌, PlacedUpTo};
-ghost use Rattle.rules.specs.Times.{tick_of, rule31};
 ghost use Rattle.rules.specs.Chunk.{runs_in, flagged, few, follows, opens, rule16, rule17, rule18, rule19, rule20, rule21, rule22};
 ghost use Rattle.chunk.specs.Bodies.{MoofIn, BodyIn};
 ghost use Rattle.runs.specs.Runs.{PassedRuns, SpansAll};
-ghost use Rattle.runs.specs.Times.{least_by};
-ghost use Rattle.chunk.specs.Answers.{SaysLasting, origin_of, says};
+ghost use Rattle.chunk.specs.Answers.{SaysLasting, says};
 
 use crate::bodies::{BodyValues, InMoof};
 use crate::{Chunk, Interval};
-use rules::{FirstTick, Header, Previous, Rule};
-use runs::times::{LIFT, TICK_LIMIT};
+use rules::{Header, Previous, Rule};
 use runs::{SAMPLE_LIMIT, Totals};
+
+// Rule 20: the last tick, 2^63 - 1.
+const TICK_LIMIT: u64 = 9223372036854775807;
 
 // The chunk's end, or that its duration is 0 or its end over 2^63 - 1.
 #[derive(Drop)]
@@ -116,26 +116,7 @@ pub fn rules_before_sums(
     rules::first_broken(rules::must(flagged(k.flags), 16, x.tfhd.at as u64), later)
 }
 
-// The earliest presentation time, by the least time of the samples, which is counted from 2^31 and the media time before 0.
-pub fn shown_at(least: FirstTick, media: u64) -> u64
-    ensures { result ≡ tick_of (least_by media least) }
-{
-    match least {
-        FirstTick::Unset => 0,
-        FirstTick::Tick(t) => {
-            if t < LIFT {
-                return 0;
-            }
-            let time = t - LIFT;
-            if time < media {
-                return 0;
-            }
-            time - media
-        }
-    }
-}
-
-// Rules 20 to 22 and 31, by what the samples span, where their number is right; with the header length and the payload length of the `mdat`.
+// Rules 20 to 22, by what the samples span, where their number is right; with the header length and the payload length of the `mdat`.
 pub fn rules_of_sums(
     m: &[u8],
     x: InMoof,
@@ -147,11 +128,10 @@ pub fn rules_of_sums(
     prev: Previous,
 ) -> Chunk
     requires moof_in { MoofIn m.now x × BodyIn m.now h.defaults k × (few t.samples ≡ true) }
-    requires spans_all { SpansAll m.now k.own (origin_of m.now head k h) (runs_in m.now) [] t.samples t.span }
+    requires spans_all { SpansAll m.now k.own (length m.now + head) (runs_in m.now) [] t.samples t.span }
     ensures { says result (rule20 m.now h.defaults
         then rule21 m.now h.defaults prev
-        then rule22 m.now h.defaults head payload
-        then rule31 m.now h.defaults h.media) m.now h }
+        then rule22 m.now h.defaults head payload) m.now h.defaults }
 {
     let place = x.run.at as u64;
     let start = k.start;
@@ -161,10 +141,7 @@ pub fn rules_of_sums(
         return Chunk::Refused { number: 20, place };
     };
     let tiled = a.tiled;
-    let times = a.times;
-    let shown = times.shown;
-    let full = rules::first_broken(rules::must(a.bytes == payload, 22, m.len() as u64), shown);
-    let fed = rules::first_broken(tiled, full);
+    let fed = rules::first_broken(tiled, rules::must(a.bytes == payload, 22, m.len() as u64));
     let rule = rules::first_broken(rules::must(opens(prev, a.sync), 21, place), fed);
     match rule {
         Rule::Breaks { number, place, .. } => Chunk::Refused { number, place },
@@ -172,7 +149,6 @@ pub fn rules_of_sums(
             start,
             end,
             sync: a.sync,
-            earliest: shown_at(times.least, h.media),
         }),
     }
 }

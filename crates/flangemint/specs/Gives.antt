@@ -1,6 +1,6 @@
 -- What a caller of C finds in the memory that it lent.
 use Rattle.std.specs.Prelude.{ℕ, List, [], ◌∷◌, ◌++◌, ◌≡◌}
-use Rattle.rules.specs.Track.{Outcome, TrackOutcome}
+use Rattle.rules.specs.Track.{Outcome}
 use Rattle.rules.specs.declared.Verdict.{Verdict}
 use Rattle.rules.specs.declared.Answer.{Answer}
 use Rattle.pieces.specs.Form.{memory, resume}
@@ -12,10 +12,6 @@ in_order v = v.number ∷ v.track ∷ v.place ∷ v.count ∷ v.timescale ∷ []
 -- an outcome as five numbers and a table afterwards: all of its verdict, and the whole of its table
 abbrev pub Gives : Outcome → List ℕ → List ℕ → Type 0
 Gives o verdict table = (verdict ≡ in_order o.verdict) × (table ≡ o.table)
-
--- the outcome of a track as five numbers and two tables afterwards
-abbrev pub GivesBoth : TrackOutcome → List ℕ → List ℕ → List ℕ → Type 0
-GivesBoth o verdict table times = (verdict ≡ in_order o.verdict) × (table ≡ o.table) × (times ≡ o.times)
 
 -- the seven numbers of an answer, in their order
 abbrev pub answered_in : Answer → List ℕ

@@ -3,7 +3,7 @@ ghost use Rattle.std.specs.Prelude.{◌≡◌};
 ghost use Rattle.rules.specs.Track.{index_outcome, track_outcome};
 ghost use Rattle.rules.specs.Set.{set_outcome};
 ghost use Rattle.pieces.specs.Form.{StartsAnyway, FeedsFrom};
-ghost use Rattle.flangemint.specs.Gives.{in_order, Gives, GivesBoth, answered_in, GivesAnswer};
+ghost use Rattle.flangemint.specs.Gives.{in_order, Gives, answered_in, GivesAnswer};
 
 use rules::{Answer, Verdict};
 
@@ -24,16 +24,10 @@ pub extern "C" fn flangemint_index(bytes: &[u8], table: &mut [u64], verdict: &mu
 
 // The track job.
 #[unsafe(no_mangle)]
-pub extern "C" fn flangemint_track(
-    bytes: &[u8],
-    table: &mut [u64],
-    times: &mut [u64],
-    verdict: &mut [u64; 5],
-)
-    ensures { GivesBoth (track_outcome bytes.now table.old times.old)
-        verdict.new table.new times.new }
+pub extern "C" fn flangemint_track(bytes: &[u8], table: &mut [u64], verdict: &mut [u64; 5])
+    ensures { Gives (track_outcome bytes.now table.old) verdict.new table.new }
 {
-    *verdict = in_order(track::track_job(bytes, table, times));
+    *verdict = in_order(track::track_job(bytes, table));
 }
 
 // The set job.
@@ -46,7 +40,7 @@ pub extern "C" fn flangemint_set(bytes: &[u8], table: &mut [u64], verdict: &mut 
 
 // A track in pieces: the first state.
 #[unsafe(no_mangle)]
-pub extern "C" fn flangemint_pieces_begin(numbers: &mut [u64; 26])
+pub extern "C" fn flangemint_pieces_begin(numbers: &mut [u64; 24])
     ensures { StartsAnyway numbers.new }
 {
     pieces::start(numbers);
@@ -55,7 +49,7 @@ pub extern "C" fn flangemint_pieces_begin(numbers: &mut [u64; 26])
 // A track in pieces: one piece more.
 #[unsafe(no_mangle)]
 pub extern "C" fn flangemint_pieces_take(
-    numbers: &mut [u64; 26],
+    numbers: &mut [u64; 24],
     head: &mut [u8; 16],
     kept: &mut [u8; 32768],
     piece: &[u8],
@@ -85,7 +79,7 @@ fn answered_in(a: Answer) -> [u64; 7]
 // A track in pieces: the answer.
 #[unsafe(no_mangle)]
 pub extern "C" fn flangemint_pieces_answer(
-    numbers: &[u64; 26],
+    numbers: &[u64; 24],
     head: &[u8; 16],
     kept: &[u8; 32768],
     answer: &mut [u64; 7],

@@ -1,15 +1,10 @@
 -- What the header check's answers say: this paper's number and values for every one of them.
-use Rattle.std.specs.Prelude.{ℕ, ◌+◌, ◌≤◌, ◌≡◌, List, true}
-use Rattle.rules.specs.Header.{header_rules, opening_rules, header_in, places_in}
+use Rattle.std.specs.Prelude.{ℕ, ◌+◌, ◌≤◌, ◌≡◌, List}
+use Rattle.rules.specs.Header.{header_rules, header_in, places_in}
 use Rattle.rules.specs.declared.Ftyp.{Ftyp}
-use Rattle.rules.specs.declared.Ftyp.TheVariants.{Branded}
 use Rattle.rules.specs.declared.Rule.TheVariants.{Holds, Breaks}
 use Rattle.header.specs.declared.HeaderFacts.{HeaderFacts}
 use Rattle.header.specs.declared.HeaderAnswer.{HeaderAnswer}
-
--- rules 7 to 13 hold, wherever `moov` stands
-abbrev pub AllHold : List ℕ → Type 0
-AllHold m = (base : ℕ) → header_rules base (Branded true) m ≡ Holds
 
 -- what the facts of a good header are
 pub record FactsIn (m : List ℕ) (x : HeaderFacts) : Type 0 where
@@ -19,9 +14,9 @@ pub record FactsIn (m : List ℕ) (x : HeaderFacts) : Type 0 where
 
 -- wherever `moov` stands: the rules hold, with the header's facts; or they break at `ftyp`; or at a place of `moov`
 abbrev pub HeadsAs : HeaderAnswer → Ftyp → List ℕ → Type 0
-HeadsAs (HeaderAnswer.Good x) f m = FactsIn m x × ((base : ℕ) → opening_rules base f m ≡ Holds)
-HeadsAs (HeaderAnswer.OfFtyp n) f m = (base : ℕ) → opening_rules base f m ≡ Breaks n 0 0
-HeadsAs (HeaderAnswer.OfMoov n p) f m = (base : ℕ) → opening_rules base f m ≡ Breaks n 0 (base + p)
+HeadsAs (HeaderAnswer.Good x) f m = FactsIn m x × ((base : ℕ) → header_rules base f m ≡ Holds)
+HeadsAs (HeaderAnswer.OfFtyp n) f m = (base : ℕ) → header_rules base f m ≡ Breaks n 0 0
+HeadsAs (HeaderAnswer.OfMoov n p) f m = (base : ℕ) → header_rules base f m ≡ Breaks n 0 (base + p)
 
 -- the places told are at most n
 abbrev pub HeadsUpTo : HeaderAnswer → ℕ → Type 0

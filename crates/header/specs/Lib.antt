@@ -1,4 +1,3 @@
 pub mod Places
 pub mod Bodies
-pub mod Edits
 pub mod Answers

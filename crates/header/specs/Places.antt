@@ -2,13 +2,13 @@
 use Rattle.std.specs.Prelude.{ℕ, ◌≡◌, List, length}
 use Rattle.rules.specs.Kinds.{tkhd, edts, mdhd, hdlr, stsd, stts, stsc, stsz, stco}
 use Rattle.rules.specs.Rules.{PlacedUpTo}
-use Rattle.rules.specs.Counts.{first_in, child, counts, counts_if}
-use Rattle.rules.specs.Header.{entries_in_trak, entries_in_edts, entries_in_mdia, entries_in_minf, entries_in_dinf, entries_in_stbl, media, trak_in, edts_in, mdia_in, minf_in, dinf_in, stbl_in, rule7, places_in}
+use Rattle.rules.specs.Boxes.{kids}
+use Rattle.rules.specs.Counts.{seen, first_in, child, counts, counts_if}
+use Rattle.rules.specs.Header.{entries_in_trak, entries_in_edts, entries_in_mdia, entries_in_minf, entries_in_dinf, entries_in_stbl, media, trak_in, mdia_in, minf_in, dinf_in, stbl_in, rule7, places_in}
 use Rattle.rules.specs.declared.Entry.TheVariants.{AtMostOne}
 use Rattle.rules.specs.declared.Rule.{Rule}
 use Rattle.rules.specs.declared.Places.{Places}
 use Rattle.boxes.specs.Stands.{Stands, StandsAt}
-use Rattle.counts.specs.Sights.{Sighted}
 use Rattle.header.specs.declared.containers.InTrak.{InTrak}
 use Rattle.header.specs.declared.containers.InMinf.{InMinf}
 use Rattle.header.specs.declared.containers.Located.{Located}
@@ -21,13 +21,12 @@ pub record Judges (m : List ℕ) (counted r : Rule) : Type 0 where
 -- the counts in `trak`, its `edts` and its `mdia`, and their boxes
 pub record TrakIn (m : List ℕ) (r : InTrak) : Type 0 where
   pub trak : Judges m (counts 7 m (trak_in m) entries_in_trak) r.trak
-  pub edts : Judges m (counts_if 7 m (edts_in m) entries_in_edts) r.edts
+  pub edts : Judges m (counts_if 7 m (seen (AtMostOne edts) (kids m (trak_in m))) entries_in_edts) r.edts
   pub mdia : Judges m (counts 7 m (mdia_in m) entries_in_mdia) r.mdia
   pub tkhd : StandsAt m (child m (trak_in m) tkhd) r.tkhd
   pub mdhd : StandsAt m (child m (mdia_in m) mdhd) r.mdhd
   pub hdlr : StandsAt m (child m (mdia_in m) hdlr) r.hdlr
   pub minf : StandsAt m (minf_in m) r.minf
-  pub edit : Sighted m (trak_in m) (AtMostOne edts) r.edit
 
 -- the counts in `minf`, its `dinf` and its `stbl`, and their boxes
 pub record MinfIn (m : List ℕ) (r : InMinf) : Type 0 where

@@ -4,10 +4,10 @@ ghost use Rattle.boxes.specs.Stands.{WholeBox, StandsAt};
 ghost use Rattle.header.specs.Places.{TrakIn, MinfIn, LocatedIn};
 
 use boxes::kinds;
-use counts::{Sight, count_boxes, counts_if};
+use counts::{count_boxes, counts_if};
 use rules::{Entry, Rule, Spot, first_broken};
 
-// The counts in `trak`, its `edts` and its `mdia`, where their boxes stand, and what is seen of `edts`.
+// The counts in `trak`, its `edts` and its `mdia`, and where their boxes stand.
 #[derive(Drop)]
 pub struct InTrak {
     pub trak: Rule,
@@ -17,7 +17,6 @@ pub struct InTrak {
     pub mdhd: Spot,
     pub hdlr: Spot,
     pub minf: Spot,
-    pub edit: Sight,
 }
 
 // The counts in `minf`, its `dinf` and its `stbl`, and where their boxes stand.
@@ -77,7 +76,6 @@ fn in_trak(m: &[u8], x: Spot) -> InTrak
         mdhd,
         hdlr,
         minf,
-        edit: edts,
     }
 }
 

@@ -1,22 +1,19 @@
-// Rules 7 to 13 and 30: the header, over what `ftyp` tells and the bytes of `moov`, whole. Every place is one in those bytes.
-ghost use Rattle.std.specs.Prelude.{◌≡◌, true, length};
+// Rules 7 to 13: the header, over what `ftyp` tells and the bytes of `moov`, whole. Every place is one in those bytes.
+ghost use Rattle.std.specs.Prelude.{◌≡◌, length};
 ghost use Rattle.rules.specs.Header.{rule7};
 ghost use Rattle.rules.specs.declared.Ftyp.TheVariants.{Branded};
 ghost use Rattle.rules.specs.declared.Rule.TheVariants.{Holds};
 ghost use Rattle.boxes.specs.Stands.{WholeBox};
 ghost use Rattle.header.specs.Places.{LocatedIn};
-ghost use Rattle.header.specs.Bodies.{ValuesIn};
-ghost use Rattle.header.specs.Answers.{AllHold, HeadsAs, HeadsUpTo};
+ghost use Rattle.header.specs.Answers.{HeadsAs, HeadsUpTo};
 
-use bodies::{Bodies, Values, read_bodies};
+use bodies::{Bodies, read_bodies};
 use containers::{Located, locate_boxes};
-use edits::{Edits, read_edits};
 use rules::{Ftyp, Header, Rule};
 use values::rules_of_values;
 
 mod bodies;
 mod containers;
-mod edits;
 pub mod ftyp;
 mod letters;
 mod values;
@@ -29,7 +26,7 @@ pub struct HeaderFacts {
     pub hdlr: usize,
 }
 
-// What rules 7 to 13 and 30 answer: the header's facts, a refusal at `ftyp`, or one at a place of `moov`.
+// What rules 7 to 13 answer: the header's facts, a refusal at `ftyp`, or one at a place of `moov`.
 #[derive(Drop)]
 pub enum HeaderAnswer {
     Good(HeaderFacts),
@@ -37,36 +34,7 @@ pub enum HeaderAnswer {
     OfMoov { number: u64, place: u64 },
 }
 
-// Rule 30, where 7 to 13 hold, with what the header tells.
-fn check_edits(m: &[u8], s: Located, v: Values) -> HeaderAnswer
-    requires { LocatedIn m.now s × ValuesIn m.now s v × AllHold m.now }
-    ensures heads_as { HeadsAs result (Branded true) m.now }
-    ensures heads_up_to { HeadsUpTo result (length m.now) }
-{
-    let edits = read_edits(m, s.trak.edit);
-    match edits {
-        Edits::Wrong(at) => HeaderAnswer::OfMoov {
-            number: 30,
-            place: at as u64,
-        },
-        Edits::From(media) => {
-            let h = v.heads;
-            let defaults = v.defaults;
-            let header = Header {
-                timescale: h.timescale,
-                id: h.id,
-                handler: h.handler,
-                defaults,
-                media,
-            };
-            let mdhd = s.trak.mdhd.at;
-            let hdlr = s.trak.hdlr.at;
-            HeaderAnswer::Good(HeaderFacts { header, mdhd, hdlr })
-        }
-    }
-}
-
-// Rules 8 to 13 and 30, where rule 7 holds and `ftyp` has a good body.
+// Rules 8 to 13, where rule 7 holds and `ftyp` has a good body.
 fn check_bodies(branded: bool, m: &[u8], s: Located) -> HeaderAnswer
     requires { LocatedIn m.now s × (rule7 m.now ≡ Holds) }
     ensures heads_as { HeadsAs result (Branded branded) m.now }
@@ -85,13 +53,25 @@ fn check_bodies(branded: bool, m: &[u8], s: Located) -> HeaderAnswer
             let values = rules_of_values(m, s, v);
             match values {
                 Rule::Breaks { number, place, .. } => HeaderAnswer::OfMoov { number, place },
-                Rule::Holds => check_edits(m, s, v),
+                Rule::Holds => {
+                    let h = v.heads;
+                    let defaults = v.defaults;
+                    let header = Header {
+                        timescale: h.timescale,
+                        id: h.id,
+                        handler: h.handler,
+                        defaults,
+                    };
+                    let mdhd = s.trak.mdhd.at;
+                    let hdlr = s.trak.hdlr.at;
+                    HeaderAnswer::Good(HeaderFacts { header, mdhd, hdlr })
+                }
             }
         }
     }
 }
 
-// Rules 7 to 13 and 30 over what `ftyp` tells and the bytes of `moov`, whose header has some bytes.
+// Rules 7 to 13 over what `ftyp` tells and the bytes of `moov`, whose header has some bytes.
 pub fn check_header(f: Ftyp, m: &[u8], head: usize) -> HeaderAnswer
     requires { WholeBox m.now head }
     ensures heads_as { HeadsAs result f m.now }

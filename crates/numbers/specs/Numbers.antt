@@ -34,10 +34,6 @@ when false a b = b
 unfoldable pub signed : ℕ → ℤ
 signed x = when (ltb x 2147483648) (pos x) (negsuc (4294967295 - x))
 
--- eight bytes' number read as a signed number of 64 bits
-unfoldable pub signed64 : ℕ → ℤ
-signed64 x = when (ltb x 9223372036854775808) (pos x) (negsuc (18446744073709551615 - x))
-
 -- whether a signed number is the place e
 unfoldable pub is_place : ℤ → ℕ → Bool
 is_place (pos n) e = eqb n e
@@ -45,5 +41,5 @@ is_place (negsuc n) e = false
 
 -- the mark of this file: its definitions unfold wherever it does
 unfoldable pub computed_numbers : Unit {0}
-unfolding be2 be3 be4 be8 has signed signed64 is_place
+unfolding be2 be3 be4 be8 has signed is_place
 computed_numbers = tt

@@ -50,13 +50,11 @@ facts_from ns =
             handler = low32 (get_or ns 9 0);
             defaults =
                 record { duration = low32 (get_or ns 10 0); size = low32 (get_or ns 11 0); flags = low32 (get_or ns 12 0) };
-            media = get_or ns 25 0;
           };
       mdhd = get_or ns 13 0;
       hdlr = get_or ns 14 0;
       fragments = get_or ns 15 0;
       plain = eqb (get_or ns 23 0) 1;
-      prompt = eqb (get_or ns 24 0) 1;
       start = start_from (get_or ns 16 0) (get_or ns 17 0);
       end = end_from (get_or ns 18 0) (get_or ns 19 0);
     }

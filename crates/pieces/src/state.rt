@@ -8,7 +8,7 @@ use rules::{
 };
 
 // The numbers of a state.
-pub const NUMBERS: usize = 26;
+pub const NUMBERS: usize = 24;
 
 // Where the bytes so far end: nowhere, where no `start` was; so many bytes into a box's header; so many bytes into a box that is gathered; so many
 // bytes before the end of the box at a place, which passes by; or anywhere, where a framing refusal was met.
@@ -91,7 +91,7 @@ fn end_from(tag: u64, a: u64) -> Previous
     Previous::Unset
 }
 
-// Whether something is so of each chunk, by its number.
+// Whether each chunk begins a fragment, by its number.
 fn plain_from(tag: u64) -> bool
     ensures { result ≡ eqb tag 1 }
 {
@@ -119,19 +119,16 @@ fn facts_from(ns: &[u64; NUMBERS]) -> TrackFacts
         id: low32(ns[8]),
         handler: low32(ns[9]),
         defaults,
-        media: ns[25],
     };
     let start = start_from(ns[16], ns[17]);
     let end = end_from(ns[18], ns[19]);
     let plain = plain_from(ns[23]);
-    let prompt = plain_from(ns[24]);
     TrackFacts {
         header,
         mdhd: ns[13],
         hdlr: ns[14],
         fragments: ns[15],
         plain,
-        prompt,
         start,
         end,
     }
@@ -261,7 +258,7 @@ fn of_end(end: Previous) -> Tagged
     }
 }
 
-// The number of whether something is so of each chunk.
+// The number of whether each chunk begins a fragment.
 fn of_plain(plain: bool) -> u64
     ensures { eqb result 1 ≡ plain }
 {
@@ -377,8 +374,6 @@ pub fn encode(st: Progress) -> [u64; NUMBERS]
             m.head as u64,
             m.size as u64,
             0,
-            0,
-            0,
         ],
         Judged::Accepted(f) => {
             let h = f.header;
@@ -412,8 +407,6 @@ pub fn encode(st: Progress) -> [u64; NUMBERS]
                 m.head as u64,
                 m.size as u64,
                 of_plain(f.plain),
-                of_plain(f.prompt),
-                h.media,
             ]
         }
     }
@@ -426,6 +419,5 @@ pub fn moved_on(ns: &[u64; NUMBERS], a: u64, total: u64) -> [u64; NUMBERS]
     [
         ns[0], a, ns[2], total, ns[4], ns[5], ns[6], ns[7], ns[8], ns[9], ns[10], ns[11], ns[12],
         ns[13], ns[14], ns[15], ns[16], ns[17], ns[18], ns[19], ns[20], ns[21], ns[22], ns[23],
-        ns[24], ns[25],
     ]
 }

@@ -8,7 +8,7 @@ use native.Mathlib.Omega.{arith}
 use lib.ListN.{length}
 use Rattle.numbers.specs.Numbers.{when}
 use Rattle.rules.specs.Track.{Fragment, continuing, begun_among, in_fragments, first_moofs}
-use Rattle.rules.specs.Course.{each_chunk}
+use Rattle.rules.specs.Course.{each_sync}
 use Rattle.rules.specs.Plans.{All}
 use Rattle.rules.proofs.Laws.{and_first, and_second}
 
@@ -180,18 +180,18 @@ module _ (sync : ℕ → Bool) where
   fragments_append_length (x ∷ xs) ys l = let e = begin_append_length xs ys in omega (arith, e)
 
   -- where each chunk is sync, each begins a fragment
-  pub each_begins : (xs : List ℕ) → each_chunk sync xs ≡ true → first_moofs (begun_among sync xs) ≡ xs
-  unfolding each_chunk begun_among
+  pub each_begins : (xs : List ℕ) → each_sync sync xs ≡ true → first_moofs (begun_among sync xs) ≡ xs
+  unfolding each_sync begun_among
   each_begins [] h = refl
   each_begins (x ∷ xs) h =
-      ap first_moofs (begins_one_lem x xs (and_first (sync x) (each_chunk sync xs) h))
-      ∙ ap {B = List ℕ} (λ (ys : List ℕ). x ∷ ys) (each_begins xs (and_second (sync x) (each_chunk sync xs) h))
+      ap first_moofs (begins_one_lem x xs (and_first (sync x) (each_sync sync xs) h))
+      ∙ ap {B = List ℕ} (λ (ys : List ℕ). x ∷ ys) (each_begins xs (and_second (sync x) (each_sync sync xs) h))
 
-  pub each_fragment : (xs : List ℕ) → each_chunk sync xs ≡ true → first_moofs (in_fragments sync xs) ≡ xs
-  unfolding in_fragments each_chunk
+  pub each_fragment : (xs : List ℕ) → each_sync sync xs ≡ true → first_moofs (in_fragments sync xs) ≡ xs
+  unfolding in_fragments each_sync
   each_fragment [] h = refl
   each_fragment (x ∷ xs) h =
-      ap {B = List ℕ} (λ (ys : List ℕ). x ∷ ys) (each_begins xs (and_second (sync x) (each_chunk sync xs) h))
+      ap {B = List ℕ} (λ (ys : List ℕ). x ∷ ys) (each_begins xs (and_second (sync x) (each_sync sync xs) h))
 
 -- two tests that agree on chunks group them alike
 module _ (sync also : ℕ → Bool) where

@@ -10,22 +10,14 @@ use lib.Dec.{eqb}
 use lib.ListN.{length, drop, set, get_or, replicate, length-drop, length-replicate, get_or-replicate}
 use lib.Seq.{drop-append_seam, get_or-drop, get_or-set_same}
 use Rattle.rules.specs.Refusals.{member}
-use Rattle.rules.specs.Track.{Outcome, refused, accepted, TrackOutcome, refused_track, accepted_track}
+use Rattle.rules.specs.Track.{Outcome, refused, accepted}
 use Rattle.rules.specs.declared.Verdict.{Verdict}
 use Rattle.rules.specs.Jobs.{Job, Permits, Shut, Dummy, refuses_all, one_verdict, never_writes, invents_count, writes_past, Shown, Answered, is_accepted, is_refused, no_room}
-use Rattle.rules.specs.Jobs.{TrackJob, PermitsBoth, AnsweredTrack, is_filled, is_turned, no_room_in}
 use Rattle.rules.proofs.Members.{not_both_lem}
 
 -- two outcomes that a contract permits are equal, verdict and table
 pub unique : (rules : Job) (s t : List ℕ) (v w : Verdict) (u x : List ℕ) → Permits rules s t v u → Permits rules s t w x → (v ≡ w) × (u ≡ x)
 unique rules s t v w u x p q = (ap (λ (o : Outcome). o.verdict) (p ∙ sym q), ap (λ (o : Outcome). o.table) (p ∙ sym q))
-
--- and of a job over a track, both tables
-pub unique_both : (rules : TrackJob) (s t u : List ℕ) (v w : Verdict) (t₁ u₁ t₂ u₂ : List ℕ)
-    → PermitsBoth rules s t u v t₁ u₁ → PermitsBoth rules s t u w t₂ u₂ → (v ≡ w) × (t₁ ≡ t₂) × (u₁ ≡ u₂)
-unique_both rules s t u v w t₁ u₁ t₂ u₂ p q =
-    let e = p ∙ sym q in
-    (ap (λ (o : TrackOutcome). o.verdict) e, ap (λ (o : TrackOutcome). o.table) e, ap (λ (o : TrackOutcome). o.times) e)
 
 -- two lists that are the same from a place on are so at that place
 same_at : (k : ℕ) (u t : List ℕ) → drop k u ≡ drop k t → get_or u k 0 ≡ get_or t k 0
@@ -99,27 +91,3 @@ module _ {refusals : List ℕ} {count scale : ℕ} {numbers t : List ℕ} {o : O
       ap (λ (o : Outcome). drop (length numbers) o.table) e ∙ drop-append_seam numbers (drop (length numbers) t)
   left_past (is_refused n k place m e) = ap (λ (o : Outcome). drop (length numbers) o.table) e
   left_past (no_room h e) = ap (λ (o : Outcome). drop (length numbers) o.table) e
-
--- the same of a track, for either table
-module _ {refusals : List ℕ} {count scale : ℕ} {numbers earliest t u : List ℕ} {o : TrackOutcome} where
-  pub zero_fills : member 0 refusals ≡ false → AnsweredTrack refusals count scale numbers earliest t u o → o.verdict.number ≡ 0
-      → o ≡ accepted_track count scale numbers earliest t u
-  unfolding refused_track
-  zero_fills none (is_filled h i e) z = e
-  zero_fills none (is_turned n k place m e) z =
-      let f : n ≡ 0 = sym (ap (λ (o : TrackOutcome). o.verdict.number) e) ∙ z in absurd (not_both_lem 0 refusals (rw f at m) none)
-  zero_fills none (no_room_in h e) z = let f : ◌≡◌ {A = ℕ} 23 0 = sym (ap (λ (o : TrackOutcome). o.verdict.number) e) ∙ z in absurd (omega arith)
-
-  pub left_past_table : AnsweredTrack refusals count scale numbers earliest t u o → drop (length numbers) o.table ≡ drop (length numbers) t
-  unfolding refused_track accepted_track
-  left_past_table (is_filled h i e) =
-      ap (λ (o : TrackOutcome). drop (length numbers) o.table) e ∙ drop-append_seam numbers (drop (length numbers) t)
-  left_past_table (is_turned n k place m e) = ap (λ (o : TrackOutcome). drop (length numbers) o.table) e
-  left_past_table (no_room_in h e) = ap (λ (o : TrackOutcome). drop (length numbers) o.table) e
-
-  pub left_past_times : AnsweredTrack refusals count scale numbers earliest t u o → drop (length earliest) o.times ≡ drop (length earliest) u
-  unfolding refused_track accepted_track
-  left_past_times (is_filled h i e) =
-      ap (λ (o : TrackOutcome). drop (length earliest) o.times) e ∙ drop-append_seam earliest (drop (length earliest) u)
-  left_past_times (is_turned n k place m e) = ap (λ (o : TrackOutcome). drop (length earliest) o.times) e
-  left_past_times (no_room_in h e) = ap (λ (o : TrackOutcome). drop (length earliest) o.times) e

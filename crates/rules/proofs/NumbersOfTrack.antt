@@ -5,23 +5,20 @@ use mathlib.Core.List.{List, [], ◌∷◌, ◌++◌}
 use Prim.Native.Nat.{ℕ}
 use lib.ListN.{length}
 use Rattle.rules.specs.Refusals.{member, among, length_numbers, framing_numbers, order_numbers, header_numbers, shape_numbers, timing_numbers}
-use Rattle.rules.specs.Refusals.{edit_numbers, showing_numbers, front_numbers, track_numbers}
+use Rattle.rules.specs.Refusals.{front_numbers, track_numbers}
 use Rattle.rules.specs.Rules.{◌then◌, must}
 use Rattle.rules.specs.Boxes.{Box, boxes}
 use Rattle.rules.specs.Framing.{framed, framing_rule, rules_of_framing}
 use Rattle.rules.specs.Order.{step6, on_stepped, order_from, rule6}
-use Rattle.rules.specs.Header.{rule7, rule8ftyp, rule8, rule9, rule10, rule11, rule12, rule13, rules_of_values, header_rules, edts_in, rule30_by}
+use Rattle.rules.specs.Header.{rule7, rule8ftyp, rule8, rule9, rule10, rule11, rule12, rule13, rules_of_values, header_rules}
 use Rattle.rules.specs.Chunk.{rule14, rule15runs, rule15, rule16runs, rule16, rule17, rule18, shape, rule19, rule20, opens, rule21, rule22runs, rule22, timing}
-use Rattle.rules.specs.Times.{rule31run, rule31runs, rule31}
-use Rattle.rules.specs.Track.{rule1, rules_of_header, rules_of_edits, moov_of, header_of, chunks, shape_at, timing_at, showing_at, end_at, rules_of_chunks, ruling}
+use Rattle.rules.specs.Track.{rule1, rules_of_header, header_of, chunks, shape_at, timing_at, end_at, rules_of_chunks, ruling}
 use Rattle.rules.specs.declared.Ftyp.{Ftyp}
 use Rattle.rules.specs.declared.Ftyp.TheVariants as ftyp
 use Rattle.rules.specs.declared.Framing.{Framing}
 use Rattle.rules.specs.declared.Framing.TheVariants.{Framed, Misframed}
 use Rattle.rules.specs.declared.Previous.{Previous}
 use Rattle.rules.specs.declared.Previous.TheVariants.{Unset, End}
-use Rattle.rules.specs.declared.Seen.{Seen}
-use Rattle.rules.specs.declared.Seen.TheVariants.{Never, Once, Twice}
 use Rattle.rules.specs.declared.Stage.{Stage}
 use Rattle.rules.specs.declared.Stage.TheVariants.{Start, Typed, Headed, Halved, Paired}
 use Rattle.rules.specs.declared.Stepped.{Stepped}
@@ -49,17 +46,6 @@ n_brand ftyp.Wrong = n_holds
 n_header : (base : ℕ) (f : Ftyp) (m : List ℕ) → Numbered header_numbers (header_rules base f m)
 unfolding header_rules rule7 rule8 rules_of_values rule10 rule11 rule12 rule13 member
 n_header base f m = search (joined, n_ftyp, n_brand) depth 40 fits 8000
-
--- the edit list
-n_edits : (m : List ℕ) (v : Seen) → Numbered edit_numbers (rule30_by m v)
-unfolding rule30_by member
-n_edits m Never = n_holds
-n_edits m (Once a) = n_must _ 30 _ refl
-n_edits m (Twice a b) = n_must _ 30 _ refl
-
-pub n_edited : (s : List ℕ) → Numbered edit_numbers (rules_of_edits s)
-unfolding rules_of_edits
-n_edited s = n_moved _ _ (n_edits (moov_of s) (edts_in (moov_of s)))
 
 -- a chunk
 n_15_runs : (m rs : List ℕ) → Numbered shape_numbers (rule15runs m rs)
@@ -97,26 +83,16 @@ pub n_timing_at : (s : List ℕ) (h : Header) (prev : Previous) (x : ℕ) → Nu
 unfolding timing_at
 n_timing_at s h prev x = n_moved x _ (n_timing _ _ _ _ _)
 
-n_31_runs : (m : List ℕ) (d : Defaults) (media from : ℕ) (rs : List ℕ) → Numbered showing_numbers (rule31runs m d media from rs)
-unfolding rule31runs rule31run member
-n_31_runs m d media from [] = n_holds
-n_31_runs m d media from (r ∷ rs) = n_then _ _ (n_must _ 31 _ refl) (n_31_runs m d media _ rs)
-
-pub n_showing_at : (s : List ℕ) (h : Header) (x : ℕ) → Numbered showing_numbers (showing_at s h x)
-unfolding showing_at rule31
-n_showing_at s h x = n_moved x _ (n_31_runs _ _ _ _ _)
-
 pub n_chunks : (s : List ℕ) (h : Header) (prev : Previous) (xs : List ℕ) → Numbered track_numbers (rules_of_chunks s h prev xs)
 unfolding rules_of_chunks among member
 n_chunks s h prev [] = n_holds
 n_chunks s h prev (x ∷ xs) =
     n_then _ _ (wider shape_numbers track_numbers _ refl (n_shape_at s h x))
-    (n_then _ _ (wider timing_numbers track_numbers _ refl (n_timing_at s h prev x))
-    (n_then _ _ (wider showing_numbers track_numbers _ refl (n_showing_at s h x)) (n_chunks s h (End (end_at s h x)) xs)))
+    (n_then _ _ (wider timing_numbers track_numbers _ refl (n_timing_at s h prev x)) (n_chunks s h (End (end_at s h x)) xs))
 
 -- behind the track's first chunk: all but 21
 abbrev pub later_numbers : List ℕ
-later_numbers = shape_numbers ++ (19 ∷ 20 ∷ 22 ∷ 31 ∷ [])
+later_numbers = shape_numbers ++ (19 ∷ 20 ∷ 22 ∷ [])
 
 n_21_later : (m : List ℕ) (d : Defaults) (e : ℕ) → Numbered later_numbers (rule21 m d (End e))
 unfolding rule21 opens must
@@ -133,8 +109,7 @@ pub n_later : (s : List ℕ) (h : Header) (e : ℕ) (xs : List ℕ) → Numbered
 unfolding rules_of_chunks among member
 n_later s h e [] = n_holds
 n_later s h e (x ∷ xs) =
-    n_then _ _ (wider shape_numbers later_numbers _ refl (n_shape_at s h x))
-    (n_then _ _ (n_timing_later s h e x) (n_then _ _ (wider showing_numbers later_numbers _ refl (n_showing_at s h x)) (n_later s h (end_at s h x) xs)))
+    n_then _ _ (wider shape_numbers later_numbers _ refl (n_shape_at s h x)) (n_then _ _ (n_timing_later s h e x) (n_later s h (end_at s h x) xs))
 
 -- so 21 is the first chunk's alone
 pub only_first_21 : (s : List ℕ) (h : Header) (e : ℕ) (xs : List ℕ) (t p : ℕ) → rules_of_chunks s h (End e) xs ≡ Breaks 21 t p → ⊥
@@ -191,5 +166,4 @@ n_front ns s q w h =
 
 pub n_ruling : (s : List ℕ) → Numbered track_numbers (ruling s)
 unfolding ruling among member
-n_ruling s =
-    n_front track_numbers s _ refl (n_then _ _ (wider edit_numbers track_numbers _ refl (n_edited s)) (n_chunks s (header_of s) Unset (chunks s)))
+n_ruling s = n_front track_numbers s _ refl (n_chunks s (header_of s) Unset (chunks s))

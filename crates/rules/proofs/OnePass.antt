@@ -14,11 +14,11 @@ use Rattle.rules.specs.Rules.{◌then◌}
 use Rattle.rules.specs.Boxes.{Box, boxes, places_of, head_of, size_of, whole}
 use Rattle.rules.specs.Counts.{wanted, seen, seen_from, first_of}
 use Rattle.rules.specs.Order.{ordered, awaits, step6, on_stepped, order_from, rule6}
-use Rattle.rules.specs.Header.{ftyp_in, opening_rules}
+use Rattle.rules.specs.Header.{ftyp_in}
 use Rattle.rules.specs.Chunk.{sync_in, begins_one}
-use Rattle.rules.specs.Track.{moov_at, moov_of, ftyp_of, header_of, chunks_from, chunks, fragment_count, mdat_at, shape_at, timing_at, showing_at, start_at, end_at, first_tick_of, last_end, rules_of_chunks, rules_of_header, rules_of_edits, end_of_track, sync_at, Fragment, continuing, begun_among, in_fragments, fragments}
+use Rattle.rules.specs.Track.{moov_at, moov_of, ftyp_of, header_of, chunks_from, chunks, fragment_count, mdat_at, shape_at, timing_at, start_at, end_at, first_tick_of, last_end, rules_of_chunks, rules_of_header, end_of_track, sync_at, Fragment, continuing, begun_among, in_fragments, fragments}
 use Rattle.rules.specs.Set.{mdhd_at, hdlr_at}
-use Rattle.rules.specs.Course.{judged_by, opened_facts, opened, or_tick, grown, joined, stage_of, spot_of, brought, and_box, waiting, course_from, course_end, course_of, facts_of, each_chunk, prompt_at}
+use Rattle.rules.specs.Course.{judged_by, opened_facts, opened, or_tick, grown, joined, stage_of, spot_of, brought, and_box, waiting, course_from, course_end, course_of, facts_of, each_sync}
 use Rattle.rules.specs.declared.Course.{Course}
 use Rattle.rules.specs.declared.Course.TheVariants.{On, Broken}
 use Rattle.rules.specs.declared.Entry.TheVariants.{One}
@@ -361,8 +361,7 @@ grown_by s f xs =
       mdhd = f.mdhd;
       hdlr = f.hdlr;
       fragments = f.fragments + length (begun_after f.end (sync_at s f.header) xs);
-      plain = f.plain && each_chunk (sync_at s f.header) xs;
-      prompt = f.prompt && each_chunk (prompt_at s f.header) xs;
+      plain = f.plain && each_sync (sync_at s f.header) xs;
       start = tick_or f.start (first_tick_of s xs);
       end = last_end s f.header f.end xs;
     }
@@ -375,33 +374,27 @@ and_and : (a b c : Bool) → ((a && b) && c) ≡ (a && (b && c))
 and_and true b c = refl
 and_and false b c = refl
 
--- facts with another count, other marks and another first start
-abbrev facts_by : TrackFacts → Previous → ℕ → Bool → Bool → FirstTick → TrackFacts
-facts_by f e n b c a = record { header = f.header; mdhd = f.mdhd; hdlr = f.hdlr; fragments = n; plain = b; prompt = c; start = a; end = e }
+-- facts with another count, another mark and another first start
+abbrev facts_by : TrackFacts → Previous → ℕ → Bool → FirstTick → TrackFacts
+facts_by f e n b a = record { header = f.header; mdhd = f.mdhd; hdlr = f.hdlr; fragments = n; plain = b; start = a; end = e }
 
 grown_none : (s : List ℕ) (f : TrackFacts) → f ≡ grown_by s f []
-unfolding grown_by last_end each_chunk
+unfolding grown_by last_end each_sync
 grown_none s f =
     let n : f.fragments ≡ f.fragments + length (begun_after f.end (sync_at s f.header) []) = omega (arith, begun_none f.end (sync_at s f.header)) in
-    let more = f.fragments + length (begun_after f.end (sync_at s f.header) []) in
-    ap (λ (k : ℕ). facts_by f f.end k f.plain f.prompt f.start) n
-    ∙ ap₂ (λ (b c : Bool). facts_by f f.end more b c f.start) (and_true f.plain) (and_true f.prompt)
-    ∙ ap (λ (a : FirstTick). facts_by f f.end more (f.plain && true) (f.prompt && true) a) (first_or_none f.start)
+    ap (λ (k : ℕ). facts_by f f.end k f.plain f.start) n
+    ∙ ap₂ (λ (b : Bool) (a : FirstTick). facts_by f f.end (f.fragments + length (begun_after f.end (sync_at s f.header) [])) b a) (and_true f.plain)
+    (first_or_none f.start)
 
 grown_on : (s : List ℕ) (f : TrackFacts) (x : ℕ) (xs : List ℕ) → grown_by s (grown f (whole s x)) xs ≡ grown_by s f (x ∷ xs)
-unfolding grown_by grown last_end start_at end_at each_chunk sync_at prompt_at
+unfolding grown_by grown last_end start_at end_at each_sync sync_at
 grown_on s f x xs =
     let sync : ℕ → Bool = sync_at s f.header in
-    let prompt : ℕ → Bool = prompt_at s f.header in
     let end = last_end s f.header (End (end_at s f.header x)) xs in
     let was = f.fragments + when (begins_one f.end (sync x)) 1 0 + length (begun_among sync xs) in
     let n : was ≡ f.fragments + length (begun_after f.end sync (x ∷ xs)) = omega (arith, begun_one f.end sync x xs) in
-    let first = tick_or (or_tick f.start (start_at s x)) (first_tick_of s xs) in
-    let plain = f.plain && (sync x && each_chunk sync xs) in
-    let soon = f.prompt && (prompt x && each_chunk prompt xs) in
-    ap₂ (λ (b c : Bool). facts_by f end was b c first) (and_and f.plain (sync x) (each_chunk sync xs)) (and_and f.prompt (prompt x) (each_chunk prompt xs))
-    ∙ ap (λ (a : FirstTick). facts_by f end was plain soon a) (first_or_tick f.start (start_at s x) (first_tick_of s xs))
-    ∙ ap (λ (k : ℕ). facts_by f end k plain soon (tick_or f.start (firstTick.Tick (start_at s x)))) n
+    ap₂ (λ (b : Bool) (a : FirstTick). facts_by f end was b a) (and_and f.plain (sync x) (each_sync sync xs)) (first_or_tick f.start (start_at s x) (first_tick_of s xs))
+    ∙ ap (λ (k : ℕ). facts_by f end k (f.plain && (sync x && each_sync sync xs)) (tick_or f.start (firstTick.Tick (start_at s x)))) n
 
 behind_rule : (s : List ℕ) (r : Rule) (f : TrackFacts) (xs : List ℕ)
     → all s (Accepted f) xs ≡ judged_by (rules_of_chunks s f.header f.end xs) (grown_by s f xs)
@@ -412,15 +405,13 @@ behind_rule s (Breaks n t p) f xs e = all_refused s n t p xs
 
 all_rules : (s : List ℕ) (f : TrackFacts) (xs : List ℕ)
     → all s (Accepted f) xs ≡ judged_by (rules_of_chunks s f.header f.end xs) (grown_by s f xs)
-unfolding all judged_by joined joined_at rules_of_chunks shape_at timing_at showing_at end_at grown grown_by last_end
+unfolding all judged_by joined joined_at rules_of_chunks shape_at timing_at end_at grown grown_by last_end
 all_rules s f [] = ap Accepted (grown_none s f)
 all_rules s f (x ∷ xs) =
     let h = f.header in
-    let next = rules_of_chunks s h (End (end_at s h x)) xs in
-    behind_rule s (shape_at s h x then timing_at s h f.end x then showing_at s h x) (grown f (whole s x)) xs (all_rules s (grown f (whole s x)) xs)
+    behind_rule s (shape_at s h x then timing_at s h f.end x) (grown f (whole s x)) xs (all_rules s (grown f (whole s x)) xs)
     ∙ ap₂ judged_by
-    (then_assoc (shape_at s h x) (timing_at s h f.end x then showing_at s h x) next
-    ∙ ap (λ (r : Rule). shape_at s h x then r) (then_assoc (timing_at s h f.end x) (showing_at s h x) next))
+    (then_assoc (shape_at s h x) (timing_at s h f.end x) (rules_of_chunks s h (End (end_at s h x)) xs))
     (grown_on s f x xs)
 
 -- the first box of a slice stands at 0
@@ -434,17 +425,15 @@ first_box_at s = by (boxes s 0) (boxes_siblings s 0)
 -- what is known by the header and every chunk is what is known of the track
 all_known : (s : List ℕ) → grown_by s (opened_facts (moov_at s) (moov_of s)) (chunks s) ≡ facts_of s
 unfolding grown_by opened_facts facts_of fragment_count fragments moov_of header_of mdhd_at hdlr_at
-all_known s =
-    ap (λ (n : ℕ). facts_by (facts_of s) (end_of_track s) n (facts_of s).plain (facts_of s).prompt (first_tick_of s (chunks s))) (zero-add (fragment_count s))
+all_known s = ap (λ (n : ℕ). facts_by (facts_of s) (end_of_track s) n (facts_of s).plain (first_tick_of s (chunks s))) (zero-add (fragment_count s))
 
--- the whole course is rule 6, then the header's rules, then 30, then the chunks'
+-- the whole course is rule 6, then the header's rules, then the chunks'
 pub one_pass : (s : List ℕ)
-    → course_of s ≡ judged_by (rule6 s then rules_of_header s then rules_of_edits s then rules_of_chunks s (header_of s) Unset (chunks s)) (facts_of s)
-unfolding course_of rule6 moov_at moov_of ftyp_of header_of chunks_from rules_of_header rules_of_edits opened opening_rules opened_facts
+    → course_of s ≡ judged_by (rule6 s then rules_of_header s then rules_of_chunks s (header_of s) Unset (chunks s)) (facts_of s)
+unfolding course_of rule6 moov_at moov_of ftyp_of header_of chunks_from rules_of_header opened opened_facts
 one_pass s =
-    let chunked = rules_of_chunks s (header_of s) Unset (chunks s) in
     comes_to_lem s (length s) 0 (On Start) (boxes s 0) (boxes_siblings s 0) tt
     ∙ ap (λ (at : ℕ). behind (rule6 s) (all s (opened_at s (ftyp_in (whole s at)) (moov_at s)) (chunks s))) (first_box_at s)
-    ∙ ap (behind (rule6 s)) (behind_rule s (rules_of_header s then rules_of_edits s) (opened_facts (moov_at s) (moov_of s)) (chunks s) (all_rules s _ (chunks s)))
-    ∙ ap₂ (λ (r : Rule) (f : TrackFacts). behind (rule6 s) (judged_by r f)) (then_assoc (rules_of_header s) (rules_of_edits s) chunked) (all_known s)
-    ∙ behind_then (rule6 s) (rules_of_header s then rules_of_edits s then chunked) (facts_of s)
+    ∙ ap (behind (rule6 s)) (behind_rule s (rules_of_header s) (opened_facts (moov_at s) (moov_of s)) (chunks s) (all_rules s _ (chunks s)))
+    ∙ ap (λ (f : TrackFacts). behind (rule6 s) (judged_by (rules_of_header s then rules_of_chunks s (header_of s) Unset (chunks s)) f)) (all_known s)
+    ∙ behind_then (rule6 s) (rules_of_header s then rules_of_chunks s (header_of s) Unset (chunks s)) (facts_of s)

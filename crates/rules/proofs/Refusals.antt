@@ -1,8 +1,7 @@
 -- The numbers of refusals of a set and of a bundle, none of them 0. So a verdict of number 0 is an acceptance, and one of a set's own numbers
 -- is about tracks that are accepted singly. At the end, how each of the three jobs may answer.
 use mathlib.Core.Path.{◌≡◌, refl}
-use mathlib.Core.Bool.{Bool, true, false, ◌||◌}
-use mathlib.Core.Logic.{inl, inr}
+use mathlib.Core.Bool.{Bool, true, false}
 use mathlib.Core.List.{List, [], ◌∷◌}
 use Prim.Native.Nat.{ℕ, zero, suc, ◌+◌, ◌≤◌}
 use native.Mathlib.Omega.{arith}
@@ -14,16 +13,15 @@ use Rattle.rules.specs.Limits.{byte_limit}
 use Rattle.rules.specs.Refusals.{member, among, apart, length_numbers, framing_numbers, record_numbers, set_numbers, index_numbers, track_numbers, bundle_numbers}
 use Rattle.rules.specs.Rules.{◌then◌, must, on_rule}
 use Rattle.rules.specs.Framing.{on_framing, framed}
-use Rattle.rules.specs.Track.{rule1, ruling, fragment_count, timescale, boundaries, earliest_times, refused, accepted, room_for, index, index_outcome}
-use Rattle.rules.specs.Track.{TrackOutcome, refused_track, accepted_track, room_for_both, room_of_both, track_outcome}
+use Rattle.rules.specs.Track.{rule1, ruling, fragment_count, timescale, boundaries, refused, accepted, room_for, index, index_outcome, track_outcome}
 use Rattle.rules.specs.Bundle.{Records, none, wrong, track, rule24_from, rule24, tracks, records}
 use Rattle.rules.specs.Set.{same, rule28_from, rule28, agrees, rulings, agree, track0, set_ruling, bundle_ruling, set_outcome}
-use Rattle.rules.specs.Jobs.{Answered, is_accepted, is_refused, no_room, AnsweredTrack, is_filled, is_turned, no_room_in}
+use Rattle.rules.specs.Jobs.{Answered, is_accepted, is_refused, no_room}
 use Rattle.rules.specs.declared.Framing.{Framing}
 use Rattle.rules.specs.declared.Framing.TheVariants.{Framed, Misframed}
 use Rattle.rules.specs.declared.Rule.{Rule}
 use Rattle.rules.specs.declared.Rule.TheVariants.{Holds, Breaks}
-use Rattle.rules.proofs.Jobs.{zero_accepts, zero_fills}
+use Rattle.rules.proofs.Jobs.{zero_accepts}
 use Rattle.rules.proofs.Members.{member_among, member_apart, not_both_lem}
 use Rattle.rules.proofs.Misframed.{FramingNumbered, framing_numbered}
 use Rattle.rules.proofs.Numbered.{Numbered, Told, of_told, wider, n_then, n_must, n_holds, n_track, passes_on}
@@ -119,25 +117,10 @@ index_refusals s t = go (leb (length s) byte_limit) (framed s) (framing_numbered
     go true (Misframed k p) h = (0, is_refused k 0 p (member_among k framing_numbers index_numbers h refl) refl)
     go false f h = (0, is_refused 1 0 0 refl refl)
 
--- the track job: the acceptance with the boundaries and the earliest times, a refusal of a track, or 23
-module _ (s t u : List ℕ) where
-  abbrev Turns : TrackOutcome → Type 0
-  Turns o = AnsweredTrack track_numbers (fragment_count s) (timescale s) (boundaries s) (earliest_times s) t u o
-
-  by_rooms : (a b : Bool) → ltb (length t) (length (boundaries s)) ≡ a → ltb (length u) (length (earliest_times s)) ≡ b
-      → Turns (when (a || b) (refused_track 23 0 0 t u) (accepted_track (fragment_count s) (timescale s) (boundaries s) (earliest_times s) t u))
-  by_rooms true b e i = no_room_in (inl (ltb-true (length t) (length (boundaries s)) e)) refl
-  by_rooms false true e i = no_room_in (inr (ltb-true (length u) (length (earliest_times s)) i)) refl
-  by_rooms false false e i = is_filled (ltb-false (length t) (length (boundaries s)) e) (ltb-false (length u) (length (earliest_times s)) i) refl
-
-  by_ruling : (r : Rule) → Numbered track_numbers r → Turns (on_rule r (λ _. room_of_both s t u) (λ n k p. refused_track n k p t u))
-  unfolding room_for_both
-  by_ruling Holds h = by_rooms (ltb (length t) (length (boundaries s))) (ltb (length u) (length (earliest_times s))) refl refl
-  by_ruling (Breaks n k p) h = is_turned n k p (h.told n k p refl) refl
-
-  pub track_refusals : Turns (track_outcome s t u)
-  unfolding track_outcome
-  track_refusals = by_ruling (ruling s) (n_ruling s)
+-- the track job: the acceptance with the boundaries, a refusal of a track, or 23
+pub track_refusals : (s t : List ℕ) → Answered track_numbers (fragment_count s) (timescale s) (boundaries s) t (track_outcome s t)
+unfolding track_outcome
+track_refusals s t = by_rule track_numbers (fragment_count s) (timescale s) (boundaries s) t (ruling s) (n_ruling s)
 
 -- the set job: the acceptance with the boundaries of track 0, a refusal of a bundle, or 23
 pub set_refusals : (b t : List ℕ)
@@ -150,10 +133,10 @@ pub index_at_0 : (s t : List ℕ) → (index_outcome s t).verdict.number ≡ 0 �
 unfolding member
 index_at_0 s t z = let h = index_refusals s t in (h.0, zero_accepts refl h.1 z)
 
-pub track_at_0 : (s t u : List ℕ) → (track_outcome s t u).verdict.number ≡ 0
-    → track_outcome s t u ≡ accepted_track (fragment_count s) (timescale s) (boundaries s) (earliest_times s) t u
+pub track_at_0 : (s t : List ℕ) → (track_outcome s t).verdict.number ≡ 0
+    → track_outcome s t ≡ accepted (fragment_count s) (timescale s) (boundaries s) t
 unfolding member
-track_at_0 s t u z = zero_fills refl (track_refusals s t u) z
+track_at_0 s t z = zero_accepts refl (track_refusals s t) z
 
 pub set_at_0 : (b t : List ℕ) → (set_outcome b t).verdict.number ≡ 0
     → set_outcome b t ≡ accepted (fragment_count (track0 (tracks b))) (timescale (track0 (tracks b))) (boundaries (track0 (tracks b))) t

@@ -92,8 +92,8 @@ unfolding fragments
 no_chunk_missing s = all_chunks (sync_at s (header_of s)) (chunks s)
 
 -- so what holds of every chunk of a track holds of every chunk of a fragment of it
-each_chunk_lem : (P : ℕ → Type 0) (s : List ℕ) (j : ℕ) (f : Fragment) → All P (chunks s) → get_elem? (fragments s) j ≡ some f → All P (chunks_of f)
-each_chunk_lem P s j f a e =
+each_chunk : (P : ℕ → Type 0) (s : List ℕ) (j : ℕ) (f : Fragment) → All P (chunks s) → get_elem? (fragments s) j ≡ some f → All P (chunks_of f)
+each_chunk P s j f a e =
     all_at (λ y. All P (chunks_of y)) (fragments s) j f (of_each P (fragments s) (subst (All P) (sym (no_chunk_missing s)) a)) e
 
 module _ (ss : List (List ℕ)) (plan : List ℕ) (h : set_ruling ss ≡ Holds) (p : Plan ss plan) where
@@ -155,7 +155,7 @@ module _ (ss : List (List ℕ)) (plan : List ℕ) (h : set_ruling ss ≡ Holds) 
 
     -- the data box of each of its chunks stands right behind it, of type `mdat` and inside the track
     pub own_data_box : All (DataBox s) (chunks_of f)
-    own_data_box = each_chunk_lem (DataBox s) s j f (boxed_data s (like t.0 s t.2).0) t.3
+    own_data_box = each_chunk (DataBox s) s j f (boxed_data s (like t.0 s t.2).0) t.3
 
     -- each sample comes whole from its own chunk's data box, the next bytes each time
     pub samples_whole_and_next : All (WholeSamples s) (chunks_of f)

@@ -7,7 +7,6 @@ use Rattle.rules.specs.Counts.{computed_counts}
 use Rattle.rules.specs.Fields.{computed_fields}
 use Rattle.rules.specs.Header.{computed_header}
 use Rattle.rules.specs.Chunk.{computed_chunk}
-use Rattle.rules.specs.Times.{computed_times}
 use Rattle.rules.specs.Track.{computed_track}
 use Rattle.rules.specs.Bundle.{computed_bundle}
 use Rattle.rules.specs.Set.{computed_set}
@@ -22,6 +21,6 @@ use Rattle.numbers.specs.Numbers.{computed_numbers}
 -- a mark, and no statement
 unfoldable pub computed : Unit {0}
 unfolding computed_rules computed_boxes computed_framing computed_order computed_counts computed_fields computed_header computed_chunk
-    computed_times computed_track computed_bundle computed_set computed_course computed_pieces computed_player computed_plans computed_refusals computed_bytes
+    computed_track computed_bundle computed_set computed_course computed_pieces computed_player computed_plans computed_refusals computed_bytes
     computed_numbers
 computed = tt

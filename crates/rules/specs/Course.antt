@@ -6,9 +6,8 @@ use Rattle.numbers.specs.Numbers.{when}
 use Rattle.rules.specs.Rules.{◌then◌, moved}
 use Rattle.rules.specs.Boxes.{Box, boxes, whole}
 use Rattle.rules.specs.Order.{ordered, step6, on_stepped}
-use Rattle.rules.specs.Header.{opening_rules, ftyp_in, header_in, places_in}
+use Rattle.rules.specs.Header.{header_rules, ftyp_in, header_in, places_in}
 use Rattle.rules.specs.Chunk.{shape, timing, start_of, end_of, sync_in, begins_one}
-use Rattle.rules.specs.Times.{rule31, prompt_in}
 use Rattle.rules.specs.Track.{header_of, chunks, sync_at, fragment_count, first_tick_of, end_of_track, ruling}
 use Rattle.rules.specs.Set.{mdhd_at, hdlr_at}
 use Rattle.rules.specs.declared.Course.{Course}
@@ -16,7 +15,6 @@ use Rattle.rules.specs.declared.Course.TheVariants.{On, Broken}
 use Rattle.rules.specs.declared.FirstTick.{FirstTick}
 use Rattle.rules.specs.declared.FirstTick.TheVariants as firstTick
 use Rattle.rules.specs.declared.Ftyp.{Ftyp}
-use Rattle.rules.specs.declared.Header.{Header}
 use Rattle.rules.specs.declared.Judged.{Judged}
 use Rattle.rules.specs.declared.Judged.TheVariants.{Accepted, Refused}
 use Rattle.rules.specs.declared.Previous.TheVariants.{Unset, End}
@@ -43,14 +41,13 @@ opened_facts at m =
       hdlr = at + (places_in m).hdlr;
       fragments = 0;
       plain = true;
-      prompt = true;
       start = firstTick.Unset;
       end = Unset;
     }
 
--- `moov` at a place, by its bytes, after `ftyp`: the header's rules, and 30
+-- `moov` at a place, by its bytes, after `ftyp`: the header's rules
 unfoldable pub opened : Ftyp → ℕ → List ℕ → Judged
-opened f at m = judged_by (opening_rules at f m) (opened_facts at m)
+opened f at m = judged_by (header_rules at f m) (opened_facts at m)
 
 -- the first start, with one start more
 abbrev pub or_tick : FirstTick → ℕ → FirstTick
@@ -66,7 +63,6 @@ grown f m =
       hdlr = f.hdlr;
       fragments = f.fragments + when (begins_one f.end (sync_in m f.header.defaults)) 1 0;
       plain = f.plain && sync_in m f.header.defaults;
-      prompt = f.prompt && prompt_in m f.header.defaults f.header.media;
       start = or_tick f.start (start_of m);
       end = End (end_of m f.header.defaults);
     }
@@ -75,9 +71,7 @@ grown f m =
 unfoldable pub joined : Judged → ℕ → List ℕ → ℕ → ℕ → Judged
 joined (Accepted f) x m head payload =
     judged_by
-    (moved x (shape m f.header.id)
-    then moved x (timing m f.header.defaults head payload f.end)
-    then moved x (rule31 m f.header.defaults f.header.media))
+    (moved x (shape m f.header.id) then moved x (timing m f.header.defaults head payload f.end))
     (grown f m)
 joined (Refused n t p) x m head payload = Refused n t p
 
@@ -134,14 +128,10 @@ course_end len (On (Halved j m)) = Refused 6 0 len
 unfoldable pub course_of : List ℕ → Judged
 course_of s = course_end (length s) (course_from s (On Start) (boxes s 0))
 
--- whether something is so of each chunk
-unfoldable pub each_chunk : (ℕ → Bool) → List ℕ → Bool
-each_chunk so [] = true
-each_chunk so (x ∷ xs) = so x && each_chunk so xs
-
--- whether the earliest presentation time of the chunk at x is its start less the media time
-unfoldable pub prompt_at : List ℕ → Header → ℕ → Bool
-prompt_at s h x = prompt_in (whole s x) h.defaults h.media
+-- whether the first sample of each chunk is sync
+unfoldable pub each_sync : (ℕ → Bool) → List ℕ → Bool
+each_sync sync [] = true
+each_sync sync (x ∷ xs) = sync x && each_sync sync xs
 
 -- what is known of a track
 unfoldable pub facts_of : List ℕ → TrackFacts
@@ -151,8 +141,7 @@ facts_of s =
       mdhd = mdhd_at s;
       hdlr = hdlr_at s;
       fragments = fragment_count s;
-      plain = each_chunk (sync_at s (header_of s)) (chunks s);
-      prompt = each_chunk (prompt_at s (header_of s)) (chunks s);
+      plain = each_sync (sync_at s (header_of s)) (chunks s);
       start = first_tick_of s (chunks s);
       end = end_of_track s;
     }
@@ -163,5 +152,5 @@ judgement s = judged_by (ruling s) (facts_of s)
 
 -- the mark of this file: its definitions unfold wherever it does
 unfoldable pub computed_course : Unit {0}
-unfolding judged_by opened_facts opened grown joined brought and_box course_from course_end course_of each_chunk prompt_at facts_of judgement
+unfolding judged_by opened_facts opened grown joined brought and_box course_from course_end course_of each_sync facts_of judgement
 computed_course = tt

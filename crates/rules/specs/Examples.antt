@@ -9,9 +9,9 @@ use Rattle.rules.specs.Boxes.{forest}
 use Rattle.rules.specs.Framing.{framing, framing_rule}
 use Rattle.rules.specs.Chunk.{rule18, rule20}
 use Rattle.rules.specs.Bundle.{rule24}
-use Rattle.rules.specs.Track.{rule1, ruling, Outcome, TrackOutcome, track_outcome}
+use Rattle.rules.specs.Track.{rule1, ruling, Outcome, track_outcome}
 use Rattle.rules.specs.Set.{set_outcome}
-use Rattle.rules.specs.Jobs.{Job, with_times}
+use Rattle.rules.specs.Jobs.{Job}
 use Rattle.rules.specs.declared.Defaults.{Defaults}
 use Rattle.rules.specs.declared.Path.TheVariants.{Top}
 use Rattle.rules.specs.declared.Rule.{Rule}
@@ -58,33 +58,29 @@ beside_t n s = (0x53 ∷ 0x57 ∷ in4 768) ++ track_t ++ (0x53 ∷ 0x57 ∷ in4 
 unfoldable pub ends_in_two : ℕ → List ℕ
 ends_in_two third = header ++ flagged_chunk 0 sync_flags ++ flagged_chunk 180000 sync_flags ++ flagged_chunk third other_flags
 
--- the track check as a job over its boundaries, with a table of times that is long enough
-abbrev pub track_job : Job
-track_job = with_times track_outcome nines
-
 -- each starred example: the job, the bytes of a track or of a bundle, and what the paper says of them
 unfoldable pub starred : List (Job × List ℕ × Outcome)
 starred =
     -- no bytes; 7 bytes
-    (track_job, [], refused_at 6 0)
-    ∷ (track_job, zeros 7, refused_at 2 0)
+    (track_outcome, [], refused_at 6 0)
+    ∷ (track_outcome, zeros 7, refused_at 2 0)
     -- 8 bytes, type `free`: sizes 8, 7, 9, 1
-    ∷ (track_job, in4 8 ++ in4 free, refused_at 6 0)
-    ∷ (track_job, in4 7 ++ in4 free, refused_at 3 0)
-    ∷ (track_job, in4 9 ++ in4 free, refused_at 4 0)
-    ∷ (track_job, in4 1 ++ in4 free, refused_at 2 0)
+    ∷ (track_outcome, in4 8 ++ in4 free, refused_at 6 0)
+    ∷ (track_outcome, in4 7 ++ in4 free, refused_at 3 0)
+    ∷ (track_outcome, in4 9 ++ in4 free, refused_at 4 0)
+    ∷ (track_outcome, in4 1 ++ in4 free, refused_at 2 0)
     -- 16 bytes, `free`: long sizes 16 and 2^64 - 1
-    ∷ (track_job, in4 1 ++ in4 free ++ in8 16, refused_at 6 0)
-    ∷ (track_job, in4 1 ++ in4 free ++ in8 18446744073709551615, refused_at 4 0)
+    ∷ (track_outcome, in4 1 ++ in4 free ++ in8 16, refused_at 6 0)
+    ∷ (track_outcome, in4 1 ++ in4 free ++ in8 18446744073709551615, refused_at 4 0)
     -- T; second `tfdt` 180001; data offset 107; a spare byte in `mdat`, size 39
-    ∷ (track_job, track_t, acceptance)
-    ∷ (track_job, header ++ chunk 0 108 30 ++ chunk 180001 108 30, refused_at 19 678)
-    ∷ (track_job, header ++ chunk 0 107 30 ++ chunk 180000 108 30, refused_at 22 556)
-    ∷ (track_job, header ++ chunk 0 108 31 ++ chunk 180000 108 30, refused_at 22 592)
+    ∷ (track_outcome, track_t, acceptance)
+    ∷ (track_outcome, header ++ chunk 0 108 30 ++ chunk 180001 108 30, refused_at 19 678)
+    ∷ (track_outcome, header ++ chunk 0 107 30 ++ chunk 180000 108 30, refused_at 22 556)
+    ∷ (track_outcome, header ++ chunk 0 108 31 ++ chunk 180000 108 30, refused_at 22 592)
     -- U, three chunks in two fragments; its second chunk a tick late; its first chunk non-sync; beside T, at the second fragment's first `moof`
-    ∷ (track_job, track_u, accepted_over 0 360000 540000)
-    ∷ (track_job, three_chunks 180001 sync_flags, refused_at 19 682)
-    ∷ (track_job, three_chunks 180000 other_flags, refused_at 21 556)
+    ∷ (track_outcome, track_u, accepted_over 0 360000 540000)
+    ∷ (track_outcome, three_chunks 180001 sync_flags, refused_at 19 682)
+    ∷ (track_outcome, three_chunks 180000 other_flags, refused_at 21 556)
     ∷ (set_outcome, beside_t 918 track_u, refused_of 28 1 776)
     -- the same with the last chunk as the one that continues: the last boundary differs, at the last fragment's first `moof`
     ∷ (set_outcome, beside_t 918 (ends_in_two 360000), refused_of 28 1 634)

@@ -1,21 +1,19 @@
--- Rules 7 to 13 and 30: the header, over what `ftyp` tells (f) and the whole bytes of `moov` (m). A place is one in those bytes; in the track `ftyp` stands
+-- Rules 7 to 13: the header, over what `ftyp` tells (f) and the whole bytes of `moov` (m). A place is one in those bytes; in the track `ftyp` stands
 -- at 0, and the rules of `moov` are moved to where it stands.
-use Rattle.std.specs.Prelude.{ℕ, zero, suc, ◌+◌, ◌-◌, ◌*◌, ◌/◌, List, [], ◌∷◌, Bool, false, not, ◌&&◌, ◌||◌, eqb, ℤ, nat_abs}
-use Rattle.std.specs.Int.Signed.{non_neg}
-use Rattle.numbers.specs.Numbers.{be8, signed, signed64, when}
+use Rattle.std.specs.Prelude.{ℕ, zero, suc, ◌+◌, ◌-◌, ◌*◌, ◌/◌, List, [], ◌∷◌, Bool, false, not, ◌||◌, eqb}
+use Rattle.numbers.specs.Numbers.{when}
 use Rattle.rules.specs.Kinds.{mvhd, trak, tkhd, edts, elst, mdia, mdhd, hdlr, elng, minf, vmhd, smhd, sthd, dinf, dref}
 use Rattle.rules.specs.Kinds.{stbl, stsd, stts, stsc, stsz, stco, mvex, trex, cmfc, cmf2, vide, soun, subt}
 use Rattle.rules.specs.Rules.{◌then◌, must, moved}
 use Rattle.rules.specs.Boxes.{head_of, size_of, kind_of, kids}
-use Rattle.rules.specs.Counts.{seen, on_seen, first_in, child, counts, counts_if}
-use Rattle.rules.specs.Fields.{Form, version, field, timed, either, plain, at_least, fours, has_form, body}
+use Rattle.rules.specs.Counts.{seen, first_in, child, counts, counts_if}
+use Rattle.rules.specs.Fields.{Form, field, timed, either, plain, at_least, fours, has_form, body}
 use Rattle.rules.specs.declared.Entry.{Entry}
 use Rattle.rules.specs.declared.Entry.TheVariants.{One, AtMostOne, OneInAll}
 use Rattle.rules.specs.declared.Ftyp.{Ftyp}
 use Rattle.rules.specs.declared.Ftyp.TheVariants.{Branded, Wrong}
 use Rattle.rules.specs.declared.Rule.{Rule}
 use Rattle.rules.specs.declared.Rule.TheVariants.{Holds, Breaks}
-use Rattle.rules.specs.declared.Seen.{Seen}
 use Rattle.rules.specs.declared.Places.{Places}
 use Rattle.rules.specs.declared.Defaults.{Defaults}
 use Rattle.rules.specs.declared.Header.{Header}
@@ -60,10 +58,6 @@ entries_in_mvex = One trex ∷ []
 unfoldable pub trak_in : List ℕ → ℕ
 trak_in m = child m 0 trak
 
--- what is seen of `edts`, which may be absent
-abbrev pub edts_in : List ℕ → Seen
-edts_in m = seen (AtMostOne edts) (kids m (trak_in m))
-
 unfoldable pub mdia_in : List ℕ → ℕ
 mdia_in m = child m (trak_in m) mdia
 
@@ -84,7 +78,7 @@ unfoldable pub rule7 : List ℕ → Rule
 rule7 m =
     counts 7 m 0 entries_in_moov
     then counts 7 m (trak_in m) entries_in_trak
-    then counts_if 7 m (edts_in m) entries_in_edts
+    then counts_if 7 m (seen (AtMostOne edts) (kids m (trak_in m))) entries_in_edts
     then counts 7 m (mdia_in m) entries_in_mdia
     then counts 7 m (minf_in m) entries_in_minf
     then counts 7 m (dinf_in m) entries_in_dinf
@@ -241,42 +235,6 @@ header_rules base f m =
     then rule9 f
     then moved base (rules_of_values m (places_in m))
 
--- `elst` 28 (version 0) or 36 (version 1)
-abbrev pub elst_form : Form
-elst_form = either 28 36
-
--- the media time of the first entry of the `elst` at a place, signed: behind the segment duration, both of 4 bytes in version 0 and of 8 in version 1
-unfoldable pub media_time : List ℕ → ℕ → ℤ
-media_time m at = when (eqb (version m at) 1) (signed64 (be8 m (at + head_of m at + 16))) (signed (field m at 12))
-
--- its rate behind that: the integer and the fraction, of 2 bytes each
-unfoldable pub media_rate : List ℕ → ℕ → ℕ
-media_rate m at = field m at (when (eqb (version m at) 1) 24 16)
-
--- one entry, of rate 1 (integer 1, fraction 0), and media time at least 0
-unfoldable pub plain_edit : List ℕ → ℕ → Bool
-plain_edit m at =
-    has_form elst_form m at && eqb (entry_count m at) 1 && eqb (media_rate m at) 0x00010000 && non_neg (media_time m at)
-
--- 30, by what is seen of `edts`: none, or in it an `elst` of exactly one entry with rate 1 and media time at least 0
-unfoldable pub rule30_by : List ℕ → Seen → Rule
-rule30_by m v =
-    on_seen v Holds (λ p. must (plain_edit m (child m p elst)) 30 (child m p elst)) (λ p q. must (plain_edit m (child m p elst)) 30 (child m p elst))
-
-abbrev pub rule30 : List ℕ → Rule
-rule30 m = rule30_by m (edts_in m)
-
--- the media time of the edit list, 0 where there is none
-unfoldable pub media_by : List ℕ → Seen → ℕ
-media_by m v = on_seen v 0 (λ p. nat_abs (media_time m (child m p elst))) (λ p q. nat_abs (media_time m (child m p elst)))
-
-abbrev pub media_in : List ℕ → ℕ
-media_in m = media_by m (edts_in m)
-
--- 7 to 13, then 30, where `moov` stands at a base
-unfoldable pub opening_rules : ℕ → Ftyp → List ℕ → Rule
-opening_rules base f m = header_rules base f m then moved base (rule30 m)
-
 -- the defaults of the `trex` at a place
 unfoldable pub trex_defaults : List ℕ → ℕ → Defaults
 trex_defaults m at = record { duration = field m at 12; size = field m at 16; flags = field m at 20 }
@@ -289,7 +247,6 @@ header_by m p =
       id = id_of m p;
       handler = handler_of m p;
       defaults = trex_defaults m p.trex;
-      media = media_in m;
     }
 
 -- what the header tells
@@ -299,5 +256,5 @@ header_in m = header_by m (places_in m)
 -- the mark of this file: its definitions unfold wherever it does
 unfoldable pub computed_header : Unit {0}
 unfolding trak_in mdia_in minf_in dinf_in stbl_in mvex_in rule7 places_in branded brands ftyp_in rule8ftyp rule8 rule9 rule10 rule11 pairs rule12
-    rule13 rules_of_values header_rules media_time media_rate plain_edit rule30_by media_by opening_rules trex_defaults header_by
+    rule13 rules_of_values header_rules trex_defaults header_by
 computed_header = tt

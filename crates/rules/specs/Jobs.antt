@@ -1,7 +1,7 @@
 -- What the contract of a job permits, over any rules that give its outcome, the jobs that it has to shut out, and how a job may answer.
-use Rattle.std.specs.Prelude.{ℕ, ◌≤◌, ◌<◌, true, false, List, ◌≡◌, ◌⊎◌, eqb, length, drop, set, get_or}
+use Rattle.std.specs.Prelude.{ℕ, ◌≤◌, ◌<◌, true, false, List, ◌≡◌, eqb, length, drop, set, get_or}
 use Rattle.rules.specs.Refusals.{member}
-use Rattle.rules.specs.Track.{Outcome, refused, accepted, TrackOutcome, refused_track, accepted_track}
+use Rattle.rules.specs.Track.{Outcome, refused, accepted}
 use Rattle.rules.specs.declared.Verdict.{Verdict}
 
 -- a job answers a verdict and leaves a table, by the slice and the table that it is lent; so do the rules
@@ -11,21 +11,6 @@ Job = List ℕ → List ℕ → Outcome
 -- a verdict and a table afterwards are permitted for a slice and a lent table: they are the outcome that the rules give
 abbrev pub Permits : Job → List ℕ → List ℕ → Verdict → List ℕ → Type 0
 Permits rules s t v u = record { verdict = v; table = u } ≡ rules s t
-
--- a job over a track leaves two tables, of boundaries and of times
-abbrev pub TrackJob : Type 0
-TrackJob = List ℕ → List ℕ → List ℕ → TrackOutcome
-
--- and what is permitted of it: the outcome that the rules give, both tables included
-abbrev pub PermitsBoth : TrackJob → List ℕ → List ℕ → List ℕ → Verdict → List ℕ → List ℕ → Type 0
-PermitsBoth rules s t u v t' u' = record { verdict = v; table = t'; times = u' } ≡ rules s t u
-
--- the same job as one over either table, the other being lent as it is
-abbrev pub with_times : TrackJob → List ℕ → Job
-with_times job u s t = record { verdict = (job s t u).verdict; table = (job s t u).table }
-
-abbrev pub with_table : TrackJob → List ℕ → Job
-with_table job t s u = record { verdict = (job s t u).verdict; table = (job s t u).times }
 
 -- on some input what a job answers is not permitted
 abbrev pub Shut : Job → Job → Type 0
@@ -60,11 +45,3 @@ pub data Answered (refusals : List ℕ) (count scale : ℕ) (numbers t : List �
   is_accepted : length numbers ≤ length t → o ≡ accepted count scale numbers t → Answered refusals count scale numbers t o
   is_refused : (n k place : ℕ) → member n refusals ≡ true → o ≡ refused n k place t → Answered refusals count scale numbers t o
   no_room : length t < length numbers → o ≡ refused 23 0 0 t → Answered refusals count scale numbers t o
-
--- the same of a track: both tables filled, a refusal under one of a list, or 23 where there is no room in one of them
-pub data AnsweredTrack (refusals : List ℕ) (count scale : ℕ) (numbers earliest t u : List ℕ) (o : TrackOutcome) : Type 0 where
-  is_filled : length numbers ≤ length t → length earliest ≤ length u → o ≡ accepted_track count scale numbers earliest t u
-      → AnsweredTrack refusals count scale numbers earliest t u o
-  is_turned : (n k place : ℕ) → member n refusals ≡ true → o ≡ refused_track n k place t u → AnsweredTrack refusals count scale numbers earliest t u o
-  no_room_in : (length t < length numbers) ⊎ (length u < length earliest) → o ≡ refused_track 23 0 0 t u
-      → AnsweredTrack refusals count scale numbers earliest t u o

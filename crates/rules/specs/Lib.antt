@@ -9,7 +9,6 @@ pub mod Counts
 pub mod Fields
 pub mod Header
 pub mod Chunk
-pub mod Times
 pub mod Track
 pub mod Bundle
 pub mod Set

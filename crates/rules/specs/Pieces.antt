@@ -7,7 +7,7 @@ use Rattle.rules.specs.Rules.{◌then◌, on_rule}
 use Rattle.rules.specs.Boxes.{Forest, end, bad, node, forest, size_of, kind_of}
 use Rattle.rules.specs.Framing.{framing, framing_rule}
 use Rattle.rules.specs.Order.{rule6}
-use Rattle.rules.specs.Track.{rule1, header_of, chunks, fragment_count, timescale, rules_of_header, rules_of_edits, rules_of_chunks, boundaries}
+use Rattle.rules.specs.Track.{rule1, header_of, chunks, fragment_count, timescale, rules_of_header, rules_of_chunks, boundaries}
 use Rattle.rules.specs.declared.Path.TheVariants.{Top}
 use Rattle.rules.specs.declared.Framing.{Framing}
 use Rattle.rules.specs.declared.Previous.TheVariants.{Unset}
@@ -39,7 +39,6 @@ ruling_in_pieces s =
     then framing_rule (framed_with29 s)
     then rule6 s
     then rules_of_header s
-    then rules_of_edits s
     then rules_of_chunks s (header_of s) Unset (chunks s)
 
 -- the first and the last boundary of a track

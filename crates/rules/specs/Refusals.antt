@@ -31,10 +31,6 @@ order_numbers = 6 ∷ []
 abbrev pub header_numbers : List ℕ
 header_numbers = 7 ∷ 8 ∷ 9 ∷ 10 ∷ 11 ∷ 12 ∷ 13 ∷ []
 
--- the edit list
-abbrev pub edit_numbers : List ℕ
-edit_numbers = 30 ∷ []
-
 -- the shape of a chunk
 abbrev pub shape_numbers : List ℕ
 shape_numbers = 14 ∷ 15 ∷ 16 ∷ 17 ∷ 18 ∷ []
@@ -42,10 +38,6 @@ shape_numbers = 14 ∷ 15 ∷ 16 ∷ 17 ∷ 18 ∷ []
 -- the timing of a chunk
 abbrev pub timing_numbers : List ℕ
 timing_numbers = 19 ∷ 20 ∷ 21 ∷ 22 ∷ []
-
--- when the samples of a chunk are shown
-abbrev pub showing_numbers : List ℕ
-showing_numbers = 31 ∷ []
 
 -- the records of a bundle
 abbrev pub record_numbers : List ℕ
@@ -59,7 +51,7 @@ set_numbers = 25 ∷ 26 ∷ 27 ∷ 28 ∷ []
 abbrev pub front_numbers : List ℕ
 front_numbers = length_numbers ++ framing_numbers ++ order_numbers ++ header_numbers
 
--- what the player meets of a track: all but the edit list, the timing, and when samples are shown
+-- what the player meets of a track: all but the timing
 abbrev pub met_numbers : List ℕ
 met_numbers = front_numbers ++ shape_numbers
 
@@ -68,7 +60,7 @@ abbrev pub index_numbers : List ℕ
 index_numbers = length_numbers ++ framing_numbers
 
 abbrev pub track_numbers : List ℕ
-track_numbers = met_numbers ++ timing_numbers ++ edit_numbers ++ showing_numbers
+track_numbers = met_numbers ++ timing_numbers
 
 abbrev pub bundle_numbers : List ℕ
 bundle_numbers = record_numbers ++ track_numbers ++ set_numbers
@@ -79,7 +71,7 @@ gather_numbers = 29 ∷ []
 
 -- the values of a header and of its chunks
 abbrev pub value_numbers : List ℕ
-value_numbers = header_numbers ++ shape_numbers ++ timing_numbers ++ edit_numbers ++ showing_numbers
+value_numbers = header_numbers ++ shape_numbers ++ timing_numbers
 
 -- all that a track in pieces may be refused under
 abbrev pub pieces_numbers : List ℕ
@@ -89,16 +81,16 @@ pieces_numbers = track_numbers ++ gather_numbers
 pub index_list : index_numbers ≡ 1 ∷ 2 ∷ 3 ∷ 4 ∷ 5 ∷ []
 index_list = refl
 
-pub track_list : track_numbers ≡ 1 ∷ 2 ∷ 3 ∷ 4 ∷ 5 ∷ 6 ∷ 7 ∷ 8 ∷ 9 ∷ 10 ∷ 11 ∷ 12 ∷ 13 ∷ 14 ∷ 15 ∷ 16 ∷ 17 ∷ 18 ∷ 19 ∷ 20 ∷ 21 ∷ 22 ∷ 30 ∷ 31 ∷ []
+pub track_list : track_numbers ≡ 1 ∷ 2 ∷ 3 ∷ 4 ∷ 5 ∷ 6 ∷ 7 ∷ 8 ∷ 9 ∷ 10 ∷ 11 ∷ 12 ∷ 13 ∷ 14 ∷ 15 ∷ 16 ∷ 17 ∷ 18 ∷ 19 ∷ 20 ∷ 21 ∷ 22 ∷ []
 track_list = refl
 
 pub bundle_list : bundle_numbers ≡ 24 ∷ (track_numbers ++ (25 ∷ 26 ∷ 27 ∷ 28 ∷ []))
 bundle_list = refl
 
-pub value_list : value_numbers ≡ 7 ∷ 8 ∷ 9 ∷ 10 ∷ 11 ∷ 12 ∷ 13 ∷ 14 ∷ 15 ∷ 16 ∷ 17 ∷ 18 ∷ 19 ∷ 20 ∷ 21 ∷ 22 ∷ 30 ∷ 31 ∷ []
+pub value_list : value_numbers ≡ 7 ∷ 8 ∷ 9 ∷ 10 ∷ 11 ∷ 12 ∷ 13 ∷ 14 ∷ 15 ∷ 16 ∷ 17 ∷ 18 ∷ 19 ∷ 20 ∷ 21 ∷ 22 ∷ []
 value_list = refl
 
-pub pieces_list : pieces_numbers ≡ 1 ∷ 2 ∷ 3 ∷ 4 ∷ 5 ∷ 6 ∷ 7 ∷ 8 ∷ 9 ∷ 10 ∷ 11 ∷ 12 ∷ 13 ∷ 14 ∷ 15 ∷ 16 ∷ 17 ∷ 18 ∷ 19 ∷ 20 ∷ 21 ∷ 22 ∷ 30 ∷ 31 ∷ 29 ∷ []
+pub pieces_list : pieces_numbers ≡ 1 ∷ 2 ∷ 3 ∷ 4 ∷ 5 ∷ 6 ∷ 7 ∷ 8 ∷ 9 ∷ 10 ∷ 11 ∷ 12 ∷ 13 ∷ 14 ∷ 15 ∷ 16 ∷ 17 ∷ 18 ∷ 19 ∷ 20 ∷ 21 ∷ 22 ∷ 29 ∷ []
 pieces_list = refl
 
 -- the mark of this file: its definitions unfold wherever it does

@@ -1,5 +1,5 @@
--- The track: what its bytes say, whether every rule holds, and the outcome of the index job and the track job, which fills two tables.
-use Rattle.std.specs.Prelude.{ℕ, ◌+◌, ◌-◌, List, [], ◌∷◌, ◌++◌, map, Bool, ◌||◌, length, drop, leb, ltb, ℤ}
+-- The track: what its bytes say, whether every rule holds, and the outcome of the index job and the track job.
+use Rattle.std.specs.Prelude.{ℕ, ◌+◌, ◌-◌, List, [], ◌∷◌, ◌++◌, map, Bool, length, drop, leb, ltb}
 use Rattle.numbers.specs.Numbers.{when}
 use Rattle.rules.specs.Kinds.{moov, moof}
 use Rattle.rules.specs.Limits.{byte_limit}
@@ -8,9 +8,8 @@ use Rattle.rules.specs.Boxes.{boxes, forest, places_of, head_of, size_of, whole}
 use Rattle.rules.specs.Counts.{seen, first_of}
 use Rattle.rules.specs.Framing.{framed, on_framing, rules_of_framing, rows}
 use Rattle.rules.specs.Order.{rule6}
-use Rattle.rules.specs.Header.{header_rules, rule30, ftyp_in, header_in}
+use Rattle.rules.specs.Header.{header_rules, ftyp_in, header_in}
 use Rattle.rules.specs.Chunk.{shape, timing, start_of, end_of, sync_in}
-use Rattle.rules.specs.Times.{rule31, times_in, least_of, tick_of}
 use Rattle.rules.specs.declared.Path.TheVariants.{Top}
 use Rattle.rules.specs.declared.Entry.TheVariants.{One}
 use Rattle.rules.specs.declared.FirstTick.{FirstTick}
@@ -61,10 +60,6 @@ unfoldable pub timing_at : List ℕ → Header → Previous → ℕ → Rule
 timing_at s h prev x =
     moved x (timing (whole s x) h.defaults (head_of s (mdat_at s x)) (size_of s (mdat_at s x) - head_of s (mdat_at s x)) prev)
 
--- 31 of the chunk at x
-unfoldable pub showing_at : List ℕ → Header → ℕ → Rule
-showing_at s h x = moved x (rule31 (whole s x) h.defaults h.media)
-
 -- the chunk at x: its start, its end, and whether its first sample is sync
 unfoldable pub start_at : List ℕ → ℕ → ℕ
 start_at s x = start_of (whole s x)
@@ -75,19 +70,15 @@ end_at s h x = end_of (whole s x) h.defaults
 unfoldable pub sync_at : List ℕ → Header → ℕ → Bool
 sync_at s h x = sync_in (whole s x) h.defaults
 
--- 14 to 22 and 31, chunk by chunk, after the previous end
+-- 14 to 22, chunk by chunk, after the previous end
 unfoldable pub rules_of_chunks : List ℕ → Header → Previous → List ℕ → Rule
 rules_of_chunks s h prev [] = Holds
 rules_of_chunks s h prev (x ∷ xs) =
-    shape_at s h x then timing_at s h prev x then showing_at s h x then rules_of_chunks s h (End (end_at s h x)) xs
+    shape_at s h x then timing_at s h prev x then rules_of_chunks s h (End (end_at s h x)) xs
 
 -- 7 to 13 of a track
 unfoldable pub rules_of_header : List ℕ → Rule
 rules_of_header s = header_rules (moov_at s) (ftyp_in (ftyp_of s)) (moov_of s)
-
--- 30 of a track
-unfoldable pub rules_of_edits : List ℕ → Rule
-rules_of_edits s = moved (moov_at s) (rule30 (moov_of s))
 
 -- every rule of a track but room, in the order in which they are tried
 unfoldable pub ruling : List ℕ → Rule
@@ -96,7 +87,6 @@ ruling s =
     then rules_of_framing s
     then rule6 s
     then rules_of_header s
-    then rules_of_edits s
     then rules_of_chunks s (header_of s) Unset (chunks s)
 
 -- a fragment: where its first chunk stands, and where those stand that continue it
@@ -161,23 +151,6 @@ boundaries s = ticks s (header_of s) (chunks s)
 abbrev pub end_of_track : List ℕ → Previous
 end_of_track s = last_end s (header_of s) Unset (chunks s)
 
--- when the samples of chunks at places are shown
-unfoldable pub times_among : List ℕ → Header → List ℕ → List ℤ
-times_among s h [] = []
-times_among s h (x ∷ xs) = times_in (whole s x) h.defaults h.media ++ times_among s h xs
-
--- when the samples of a fragment are shown, of all its chunks
-unfoldable pub times_of : List ℕ → Header → Fragment → List ℤ
-times_of s h f = times_among s h (f.first ∷ f.others)
-
--- a fragment's earliest presentation time: the least of these
-unfoldable pub earliest_of : List ℕ → Header → Fragment → ℕ
-earliest_of s h f = tick_of (least_of (times_of s h f))
-
--- each fragment's earliest presentation time
-unfoldable pub earliest_times : List ℕ → List ℕ
-earliest_times s = map (earliest_of s (header_of s)) (fragments s)
-
 -- what a job gives back: the verdict, and the lent table afterwards
 pub record Outcome : Type 0 where
   pub verdict : Verdict
@@ -204,36 +177,6 @@ room_for count scale numbers t = when (ltb (length t) (length numbers)) (refused
 abbrev pub room_of : List ℕ → List ℕ → Outcome
 room_of s t = room_for (fragment_count s) (timescale s) (boundaries s) t
 
--- what the track job gives back: the verdict, and both lent tables afterwards, that of the boundaries and that of the times
-pub record TrackOutcome : Type 0 where
-  pub verdict : Verdict
-  pub table : List ℕ
-  pub times : List ℕ
-
--- a refusal of a track: both tables unchanged
-unfoldable pub refused_track : ℕ → ℕ → ℕ → List ℕ → List ℕ → TrackOutcome
-refused_track n k place t u =
-    record { verdict = record { number = n; track = k; place = place; count = 0; timescale = 0 }; table = t; times = u }
-
--- an acceptance of a track: each table's first numbers are those given, and nothing after them changes
-unfoldable pub accepted_track : ℕ → ℕ → List ℕ → List ℕ → List ℕ → List ℕ → TrackOutcome
-accepted_track count scale numbers earliest t u =
-    record {
-      verdict = record { number = 0; track = 0; place = 0; count = count; timescale = scale };
-      table = numbers ++ drop (length numbers) t;
-      times = earliest ++ drop (length earliest) u;
-    }
-
--- 23: either lent table under the numbers to write; last of all
-unfoldable pub room_for_both : ℕ → ℕ → List ℕ → List ℕ → List ℕ → List ℕ → TrackOutcome
-room_for_both count scale numbers earliest t u =
-    when (ltb (length t) (length numbers) || ltb (length u) (length earliest)) (refused_track 23 0 0 t u)
-    (accepted_track count scale numbers earliest t u)
-
--- the outcome of a track whose rules hold: room, the boundaries, and the earliest presentation times
-abbrev pub room_of_both : List ℕ → List ℕ → List ℕ → TrackOutcome
-room_of_both s t u = room_for_both (fragment_count s) (timescale s) (boundaries s) (earliest_times s) t u
-
 -- the index of a slice
 unfoldable pub index : List ℕ → List ℕ
 index s = rows (forest Top s 0) 0 0
@@ -245,14 +188,13 @@ index_outcome s t =
     (λ _. on_framing (framed s) (λ n. room_for n 0 (index s) t) (λ k p. refused k 0 p t))
     (λ k _ p. refused k 0 p t)
 
--- the track job: every rule, then room in both tables
-unfoldable pub track_outcome : List ℕ → List ℕ → List ℕ → TrackOutcome
-track_outcome s t u =
-    on_rule (ruling s) (λ _. room_of_both s t u) (λ n k p. refused_track n k p t u)
+-- the track job: every rule, then room
+unfoldable pub track_outcome : List ℕ → List ℕ → Outcome
+track_outcome s t =
+    on_rule (ruling s) (λ _. room_of s t) (λ n k p. refused n k p t)
 
 -- the mark of this file: its definitions unfold wherever it does
 unfoldable pub computed_track : Unit {0}
-unfolding rule1 moov_at moov_of ftyp_of header_of chunks_from mdat_at shape_at timing_at showing_at start_at end_at sync_at rules_of_chunks rules_of_header
-    rules_of_edits ruling continuing begun_among in_fragments fragments fragment_count timescale last_end ticks boundaries times_among times_of earliest_of
-    earliest_times refused accepted room_for refused_track accepted_track room_for_both index index_outcome track_outcome
+unfolding rule1 moov_at moov_of ftyp_of header_of chunks_from mdat_at shape_at timing_at start_at end_at sync_at rules_of_chunks rules_of_header ruling
+    continuing begun_among in_fragments fragments fragment_count timescale last_end ticks boundaries refused accepted room_for index index_outcome track_outcome
 computed_track = tt

@@ -141,19 +141,17 @@ pub struct Defaults {
     pub flags: u32,
 }
 
-// What the header tells the chunks and the set; of the edit list the media time, 0 where there is none.
+// What the header tells the chunks and the set.
 #[derive(Drop)]
 pub struct Header {
     pub timescale: u32,
     pub id: u32,
     pub handler: u32,
     pub defaults: Defaults,
-    pub media: u64,
 }
 
 // What is known of a track: what its header tells, where `mdhd` and `hdlr` stand in it, the number of its fragments, whether the first sample of
-// each chunk is sync, so that each begins one, whether the earliest presentation time of each is its start less the media time, the first start and the
-// last end.
+// each chunk is sync, so that each begins one, the first start and the last end.
 #[derive(Drop)]
 pub struct TrackFacts {
     pub header: Header,
@@ -161,7 +159,6 @@ pub struct TrackFacts {
     pub hdlr: u64,
     pub fragments: u64,
     pub plain: bool,
-    pub prompt: bool,
     pub start: FirstTick,
     pub end: Previous,
 }

@@ -1,5 +1,4 @@
 pub mod Rows
 pub mod Runs
 pub mod Samples
-pub mod Times
 pub mod Trun

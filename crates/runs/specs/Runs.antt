@@ -1,22 +1,17 @@
 -- The runs of a chunk: what the walk over them knows, and what it answers.
 use Rattle.std.specs.Prelude.{◌≡◌, ℕ, ◌+◌, ◌*◌, ◌≤◌, Bool, true, false, List, [], ◌∷◌, length, ◌==◌}
-use Rattle.std.proofs.Math.Option.{none}
 use Rattle.numbers.specs.Numbers.{when}
 use Rattle.rules.specs.Kinds.{trun}
-use Rattle.rules.specs.Limits.{sample_limit, tick_limit}
+use Rattle.rules.specs.Limits.{sample_limit}
 use Rattle.rules.specs.Boxes.{boxes, places_of}
 use Rattle.rules.specs.Rules.{◌then◌, must, PlacedUpTo}
 use Rattle.rules.specs.Fields.{wrong_body, body}
 use Rattle.rules.specs.Chunk.{run_form, first_flags_of, run_duration, run_bytes, samples_of, durations_of, bytes_in, first_flags}
 use Rattle.rules.specs.Chunk.{rule15runs, rule16runs, rule22run, rule22runs, is_sync}
-use Rattle.rules.specs.Times.{rule31runs, times_of_runs, least_from, least_of}
 use Rattle.rules.specs.declared.Rule.{Rule}
 use Rattle.rules.specs.declared.Rule.TheVariants.{Holds, Breaks}
 use Rattle.rules.specs.declared.Defaults.{Defaults}
 use Rattle.rules.specs.declared.Spot.{Spot}
-use Rattle.runs.specs.Times.{least_by, AndTimes}
-use Rattle.runs.specs.declared.times.Origin.{Origin}
-use Rattle.runs.specs.declared.times.Times.{Times}
 use Rattle.runs.specs.declared.Span.{Span}
 use Rattle.runs.specs.declared.Totals.{Totals}
 use Rattle.runs.specs.declared.Runs.{Runs}
@@ -46,32 +41,23 @@ Low want t = Due want t.clash t.samples → SmallSums t.samples t.span
 abbrev pub sync_after : ℕ → ℕ → Bool → List ℕ → Defaults → ℕ → Bool
 sync_after before n sync m d r = when (before == 0) (when (n == 0) sync (is_sync (first_flags_of m d r))) sync
 
--- b is what samples span, a, with the n of the run at a place, after so many samples, by where all begin
-pub record AndSamples (m : List ℕ) (d : Defaults) (from : Origin) (before r n : ℕ) (a b : Span) : Type 0 where
+-- b is what samples span, a, with the n of the run at a place, after so many samples, where the bytes of all begin at a place
+pub record AndSamples (m : List ℕ) (d : Defaults) (from before r n : ℕ) (a b : Span) : Type 0 where
   pub ticks : b.ticks ≡ a.ticks + run_duration m d r
   pub bytes : b.bytes ≡ a.bytes + run_bytes m d r
   pub lead : b.lead ≡ false
   pub sync : b.sync ≡ sync_after before n a.sync m d r
-  pub tiled : b.tiled ≡ (a.tiled then rule22run m a.lead (from.byte + a.bytes) r)
+  pub tiled : b.tiled ≡ (a.tiled then rule22run m a.lead (from + a.bytes) r)
   pub small : SmallSums (before + n) b
-  pub times : AndTimes m d from a.ticks b.ticks r a.times b.times
 
--- when the samples of the runs passed are shown, where some of all are left, by the ticks of those passed, where rule 20 does not break
-pub record ShowsAll (m : List ℕ) (d : Defaults) (from : Origin) (all left : List ℕ) (ticks : ℕ) (t : Times) : Type 0 where
-  pub shown : from.tick + ticks ≤ tick_limit → rule31runs m d from.media from.tick all ≡ (t.shown then rule31runs m d from.media (from.tick + ticks) left)
-  pub least : from.tick + ticks ≤ tick_limit
-      → least_of (times_of_runs m d from.media from.tick all) ≡ least_from (least_by from.media t.least) (times_of_runs m d from.media (from.tick + ticks) left)
-  pub place : PlacedUpTo (length m) t.shown
-
--- what the samples of the runs passed span, so many, where some of all are left, by where all begin
-pub record SpansAll (m : List ℕ) (d : Defaults) (from : Origin) (all left : List ℕ) (samples : ℕ) (a : Span) : Type 0 where
+-- what the samples of the runs passed span, so many, where some of all are left and the bytes of all begin at a place
+pub record SpansAll (m : List ℕ) (d : Defaults) (from : ℕ) (all left : List ℕ) (samples : ℕ) (a : Span) : Type 0 where
   pub ticks : durations_of m d all ≡ a.ticks + durations_of m d left
   pub bytes : bytes_in m d all ≡ a.bytes + bytes_in m d left
   pub sync : is_sync (first_flags m d all) ≡ when (samples == 0) (is_sync (first_flags m d left)) a.sync
-  pub tiled : rule22runs m d true from.byte all ≡ (a.tiled then rule22runs m d a.lead (from.byte + a.bytes) left)
+  pub tiled : rule22runs m d true from all ≡ (a.tiled then rule22runs m d a.lead (from + a.bytes) left)
   pub small : SmallSums samples a
   pub place : PlacedUpTo (length m) a.tiled
-  pub times : ShowsAll m d from all left a.ticks a.times
 
 -- rules 15 and 16 of the runs passed, and their samples, where some of all are left
 pub record PassedRuns (m all left : List ℕ) (t : Totals) : Type 0 where
@@ -81,20 +67,20 @@ pub record PassedRuns (m all left : List ℕ) (t : Totals) : Type 0 where
   pub place : PlacedUpTo (length m) t.clash
 
 -- what the walk knows of all runs where some are left: of those passed, and the sums, where they are asked for
-pub record Walked (m : List ℕ) (want : Bool) (d : Defaults) (from : Origin) (all left : List ℕ) (t : Totals) : Type 0 where
+pub record Walked (m : List ℕ) (want : Bool) (d : Defaults) (from : ℕ) (all left : List ℕ) (t : Totals) : Type 0 where
   pub passed : PassedRuns m all left t
   pub sums : Due want t.clash t.samples → SpansAll m d from all left t.samples t.span
 
 -- what is known where the run at a place is left is known where it is passed
-abbrev pub Onward : List ℕ → Bool → Defaults → Origin → ℕ → Totals → Totals → Type 0
+abbrev pub Onward : List ℕ → Bool → Defaults → ℕ → ℕ → Totals → Totals → Type 0
 Onward m want d from r t u = (all rest : List ℕ) → Walked m want d from all (r ∷ rest) t → Walked m want d from all rest u
 
 -- one run more, or the place of one that has another form
-abbrev pub SaysNext : Runs → List ℕ → Spot → Bool → Defaults → Origin → Totals → Type 0
+abbrev pub SaysNext : Runs → List ℕ → Spot → Bool → Defaults → ℕ → Totals → Type 0
 SaysNext (Of u) m r want d from t = Onward m want d from r.at t u × (u.samples ≤ t.samples + 4294967295)
 SaysNext (Wrong p) m r want d from t = (body 15 (run_form m r.at) m r.at ≡ wrong_body 15 (run_form m r.at) m r.at) × (p ≡ r.at)
 
 -- what all runs come to, or the place of the first that has another form
-abbrev pub SaysRuns : Runs → List ℕ → Bool → Defaults → Origin → List ℕ → Type 0
+abbrev pub SaysRuns : Runs → List ℕ → Bool → Defaults → ℕ → List ℕ → Type 0
 SaysRuns (Of t) m want d from rs = Walked m want d from rs [] t
 SaysRuns (Wrong p) m want d from rs = (rule15runs m rs ≡ Breaks 15 0 p) × (p ≤ length m)

@@ -1,5 +1,5 @@
 // The runs of a chunk in one walk: rules 15 and 16 of them, their samples in all, and, while they are asked for, what the samples
-// come to, for rules 20 to 22 and 31.
+// come to, for rules 20 to 22.
 ghost use Rattle.std.specs.Prelude.{◌≡◌, ◌+◌, ◌*◌, ◌≤◌, length, take};
 ghost use Rattle.rules.specs.Limits.{byte_limit, sample_limit};
 ghost use Rattle.rules.specs.Fields.{box_flags};
@@ -9,21 +9,19 @@ ghost use Rattle.runs.specs.Trun.{FilledRun};
 ghost use Rattle.runs.specs.Runs.{runs_at, SaysDue, SmallSums, Low, sync_after, AndSamples, SaysNext, SaysRuns};
 
 use boxes::kinds::TRUN;
-use rules::{Defaults, FirstTick, Look, Rule, Spot};
-use times::{Origin, Times};
+use rules::{Defaults, Look, Rule, Spot};
 use trun::Trun;
 
 pub mod again;
 pub mod layout;
 mod samples;
-pub mod times;
 mod trun;
 
 // Rule 18: the samples of a chunk.
 pub const SAMPLE_LIMIT: u64 = 65536;
 
 // What the samples of runs span: their durations and sizes in all, whether no run was passed, whether the first sample, once there is
-// one, is a sync sample, rule 22 of the runs, and when the samples are shown.
+// one, is a sync sample, and rule 22 of the runs.
 #[derive(Drop)]
 pub struct Span {
     pub ticks: u64,
@@ -31,7 +29,6 @@ pub struct Span {
     pub lead: bool,
     pub sync: bool,
     pub tiled: Rule,
-    pub times: Times,
 }
 
 // What runs come to: rule 16 of them, their samples in all, and what these span, as long as that is asked for.
@@ -124,43 +121,38 @@ fn placed(first: bool, m: &[u8], r: Spot, flags: u32, e: u64) -> bool
     !first
 }
 
-// What samples span with those of one run more, after so many samples, by where all begin.
+// What samples span with those of one run more, after so many samples, where the bytes of all begin at a place.
 fn and_samples(
     m: &[u8],
     r: Spot,
     flags: u32,
     count: u32,
     d: Defaults,
-    from: Origin,
+    from: u64,
     before: u64,
     a: Span,
 ) -> Span
-    requires filled_run { FilledRun m.now r flags count × (before + count ≤ sample_limit) × (from.byte ≤ byte_limit + 16) }
+    requires filled_run { FilledRun m.now r flags count × (before + count ≤ sample_limit) × (from ≤ byte_limit + 16) }
     requires small_sums { SmallSums before a }
     ensures { AndSamples m.now d from before r.at count a result }
 {
-    let own = placed(a.lead, m, r, flags, from.byte + a.bytes);
+    let own = placed(a.lead, m, r, flags, from + a.bytes);
     let so_far = a.tiled;
     let tiled = rules::first_broken(so_far, rules::must(own, 22, r.at as u64));
     let sync = sync_after(before, a.sync, m, r, flags, count, d);
     let sums = samples::sums_of(m, r, flags, count, d);
-    let ticks = a.ticks + sums.ticks;
-    let bytes = a.bytes + sums.bytes;
-    let passed = a.times;
-    let times = times::and_times(m, r, flags, count, d, from, a.ticks, ticks, passed);
     Span {
-        ticks,
-        bytes,
+        ticks: a.ticks + sums.ticks,
+        bytes: a.bytes + sums.bytes,
         lead: false,
         sync,
         tiled,
-        times,
     }
 }
 
 // What runs come to with one more.
-fn and_run(m: &[u8], r: Spot, want: bool, d: Defaults, from: Origin, t: Totals) -> Runs
-    requires stands { Stands m.now r × (from.byte ≤ byte_limit + 16) }
+fn and_run(m: &[u8], r: Spot, want: bool, d: Defaults, from: u64, t: Totals) -> Runs
+    requires stands { Stands m.now r × (from ≤ byte_limit + 16) }
     requires low { Low want t × (t.samples ≤ 4294967296 * byte_limit) }
     ensures { SaysNext result m.now r want d from t }
 {
@@ -187,9 +179,9 @@ fn and_run(m: &[u8], r: Spot, want: bool, d: Defaults, from: Origin, t: Totals) 
     })
 }
 
-// What the runs from a start on in a front of the `moof` come to, by where their samples begin.
-pub fn walk(m: &[u8], s: &[u8], start: usize, want: bool, d: Defaults, from: Origin) -> Runs
-    requires m_len_bound { (length m.now ≤ byte_limit) × (from.byte ≤ byte_limit + 16) }
+// What the runs from a start on in a front of the `moof` come to, where the first sample's byte is at a place after the `moof` start.
+pub fn walk(m: &[u8], s: &[u8], start: usize, want: bool, d: Defaults, from: u64) -> Runs
+    requires m_len_bound { (length m.now ≤ byte_limit) × (from ≤ byte_limit + 16) }
     requires s_value { s.now ≡ take (length s.now) m.now }
     ensures { SaysRuns result m.now want d from (runs_at s.now start) }
 {
@@ -203,10 +195,6 @@ pub fn walk(m: &[u8], s: &[u8], start: usize, want: bool, d: Defaults, from: Ori
             lead: true,
             sync: true,
             tiled: Rule::Holds,
-            times: Times {
-                shown: Rule::Holds,
-                least: FirstTick::Unset,
-            },
         },
     };
     loop {

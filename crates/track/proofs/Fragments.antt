@@ -8,7 +8,7 @@ use borrow.Author.Tests.{ne_eqb}
 use Rattle.rules.specs.Kinds.{moof}
 use Rattle.rules.specs.Boxes.{look, boxes, whole}
 use Rattle.rules.specs.Chunk.{start_of, sync_in}
-use Rattle.rules.specs.Course.{eachSync}
+use Rattle.rules.specs.Course.{each_sync}
 use Rattle.rules.specs.Track.{chunks_from, start_at, sync_at, begun_among}
 use Rattle.rules.specs.declared.Header.{Header}
 use Rattle.rules.specs.declared.Look.{Look}
@@ -30,7 +30,7 @@ module _ (s : List ℕ) (h : Header) where
   begun_same a b e = rw e
 
   sync_same : (a b : ℕ) → chunks_from s a ≡ chunks_from s b → (plain : Bool) → EachSync plain s h a → EachSync plain s h b
-  sync_same a b e plain g p = ap (eachSync (sync_at s h)) (sym e) ∙ g p
+  sync_same a b e plain g p = ap (each_sync (sync_at s h)) (sym e) ∙ g p
 
   -- a chunk that begins a fragment, and one that does not
   module _ (p q : ℕ) (e : chunks_from s p ≡ p ∷ chunks_from s q) where
@@ -42,19 +42,19 @@ module _ (s : List ℕ) (h : Header) where
     unfolding begun_from begun_among
     begun_later n = rw (e, n)
 
-    each : eachSync (sync_at s h) (chunks_from s p) ≡ (sync_at s h p && eachSync (sync_at s h) (chunks_from s q))
-    unfolding eachSync
+    each : each_sync (sync_at s h) (chunks_from s p) ≡ (sync_at s h p && each_sync (sync_at s h) (chunks_from s q))
+    unfolding each_sync
     each = rw e
 
     sync_here : (plain : Bool) → EachSync plain s h p → plain ≡ true → sync_at s h p ≡ true
-    sync_here plain g t = by (sync_at s h p) (eachSync (sync_at s h) (chunks_from s q)) (sym each ∙ g t)
+    sync_here plain g t = by (sync_at s h p) (each_sync (sync_at s h) (chunks_from s q)) (sym each ∙ g t)
       where
         by : (a b : Bool) → (a && b) ≡ true → a ≡ true
         by true b y = refl
         by false b y = y
 
     sync_later : (plain : Bool) → EachSync plain s h p → EachSync plain s h q
-    sync_later plain g t = by (sync_at s h p) (eachSync (sync_at s h) (chunks_from s q)) (sym each ∙ g t)
+    sync_later plain g t = by (sync_at s h p) (each_sync (sync_at s h) (chunks_from s q)) (sym each ∙ g t)
       where
         by : (a b : Bool) → (a && b) ≡ true → b ≡ true
         by true b y = y

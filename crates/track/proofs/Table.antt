@@ -10,7 +10,7 @@ use lib.Seq.{sets, sets-eq}
 use borrow.Author.Tests.{lt-ltb, le-ltb, leb-true}
 use Rattle.rules.specs.Limits.{byte_limit}
 use Rattle.rules.specs.Track.{rule1, Outcome, ruling, header_of, timescale, room_for, refused, accepted, track_outcome, chunks, fragments, first_moofs, fragment_count, start_at, sync_at, end_list, ticks, boundaries, end_of_track}
-use Rattle.rules.specs.Course.{judged_by, eachSync, facts_of, judgement}
+use Rattle.rules.specs.Course.{judged_by, each_sync, facts_of, judgement}
 use Rattle.rules.specs.declared.Header.{Header}
 use Rattle.rules.specs.declared.Judged.TheVariants.{Accepted, Refused}
 use Rattle.rules.specs.declared.Previous.{Previous}
@@ -68,7 +68,7 @@ module _ (s : List ℕ) (f : TrackFacts) (k : Known s f) where
   pub known_sync : EachSync f.plain s f.header 0
   unfolding facts_of
   known_sync p =
-      ap (λ (h : Header). eachSync (sync_at s h) (chunks s)) known_header ∙ sym (ap (λ (g : TrackFacts). g.plain) k.facts) ∙ p
+      ap (λ (h : Header). each_sync (sync_at s h) (chunks s)) known_header ∙ sym (ap (λ (g : TrackFacts). g.plain) k.facts) ∙ p
 
   -- its boundaries
   pub known_written : written s f.end (begun_from s f.header 0) ≡ boundaries s

@@ -1,7 +1,7 @@
 -- What the cursor over a track's fragments answers.
 use Rattle.std.specs.Prelude.{ℕ, ◌≤◌, ◌<◌, ◌≡◌, Bool, true, List, [], ◌∷◌, length}
 use Rattle.rules.specs.Track.{chunks_from, start_at, sync_at, begun_among, first_moofs}
-use Rattle.rules.specs.Course.{eachSync}
+use Rattle.rules.specs.Course.{each_sync}
 use Rattle.rules.specs.declared.Header.{Header}
 use Rattle.track.specs.declared.cursor.Cursor.{Cursor}
 use Rattle.track.specs.declared.cursor.Cursor.TheVariants as cursor
@@ -12,7 +12,7 @@ begun_from s h at = first_moofs (begun_among (sync_at s h) (chunks_from s at))
 
 -- where it is so said, the first sample of each chunk from a place on is sync
 abbrev pub EachSync : Bool → List ℕ → Header → ℕ → Type 0
-EachSync plain s h at = plain ≡ true → eachSync (sync_at s h) (chunks_from s at) ≡ true
+EachSync plain s h at = plain ≡ true → each_sync (sync_at s h) (chunks_from s at) ≡ true
 
 -- from a place on the next fragment begins at p with its start v, and those after it from q on
 pub record NextAt (s : List ℕ) (h : Header) (at p q v : ℕ) : Type 0 where

@@ -1,5 +1,5 @@
 // One pass over the top level: what a track has come to after some of its boxes.
-ghost use Rattle.std.specs.Prelude.{◌≡◌, ◌&&◌, ◌+◌, ◌-◌, ◌≤◌, length, eqb};
+ghost use Rattle.std.specs.Prelude.{◌≡◌, ◌&&◌, ◌+◌, ◌-◌, ◌≤◌, length};
 ghost use Rattle.numbers.specs.Numbers.{when};
 ghost use Rattle.rules.specs.Limits.{byte_limit};
 ghost use Rattle.rules.specs.Order.{ordered, awaits, step6};
@@ -62,7 +62,7 @@ fn step6(stage: Stage, kind: u32) -> Stepped
     }
 }
 
-// `moov`, by its bytes, after `ftyp`: the header's rules, and 30.
+// `moov`, by its bytes, after `ftyp`: the header's rules.
 fn opened(own: &[u8], f: Ftyp, b: Spot) -> Judged
     requires { WholeBox own.now b.head × (length own.now ≤ byte_limit) × (b.at ≤ byte_limit) }
     ensures { result ≡ opened f b.at own.now }
@@ -77,7 +77,6 @@ fn opened(own: &[u8], f: Ftyp, b: Spot) -> Judged
                 hdlr: base + x.hdlr as u64,
                 fragments: 0,
                 plain: true,
-                prompt: true,
                 start: FirstTick::Unset,
                 end: Previous::Unset,
             })
@@ -120,16 +119,6 @@ fn both(a: bool, b: bool) -> bool
     if a { b } else { false }
 }
 
-// Whether an earliest presentation time is a start less the media time.
-fn is_prompt(start: u64, earliest: u64, media: u64) -> bool
-    ensures { result ≡ eqb (earliest + media) start }
-{
-    if start < media {
-        return false;
-    }
-    start - media == earliest
-}
-
 // A `moof`, by its bytes, and its `mdat`, after rules that hold: the chunk's rules, and one fragment more where it begins one.
 fn and_chunk(moof: &[u8], f: TrackFacts, m: Spot, mdat: Spot) -> Judged
     requires whole_box { WholeBox moof.now m.head × (length moof.now ≤ byte_limit) × (m.at ≤ byte_limit) }
@@ -149,7 +138,6 @@ fn and_chunk(moof: &[u8], f: TrackFacts, m: Spot, mdat: Spot) -> Judged
                 hdlr: f.hdlr,
                 fragments: and_one(f.fragments, x.sync),
                 plain: both(f.plain, x.sync),
-                prompt: both(f.prompt, is_prompt(x.start, x.earliest, header.media)),
                 start,
                 end: Previous::End(x.end),
             })

@@ -1,20 +1,17 @@
-// The track check: every rule over one slice, then room, with the boundaries written to one lent table and the earliest presentation times to another.
+// The track check: every rule over one slice, then room, with the boundaries written to a lent table.
 ghost use Rattle.std.specs.Prelude.{◌≡◌, ◌++◌, ◌+◌, ◌≤◌, length, drop};
 ghost use Rattle.std.proofs.lemmas.List.Edits.{sets};
-ghost use Rattle.rules.specs.Jobs.{Permits, PermitsBoth};
-ghost use Rattle.rules.specs.Track.{boundaries, earliest_times, end_list, track_outcome, room_of, room_of_both};
+ghost use Rattle.rules.specs.Jobs.{Permits};
+ghost use Rattle.rules.specs.Track.{boundaries, end_list, track_outcome, room_of};
 ghost use Rattle.rules.specs.Course.{judgement};
 ghost use Rattle.track.specs.Course.{Known};
-ghost use Rattle.track.specs.Earliest.{Begins};
 
 use cursor::{Cursor, next_fragment};
-use earliest::{write_prompt, write_times};
 use framing::{BYTE_LIMIT, Step};
 use rules::{Course, Judged, Previous, Reached, Spot, TrackFacts, Verdict};
 
 pub mod course;
 pub mod cursor;
-mod earliest;
 
 // Every rule of a track but room, in one walk along the top level.
 pub fn judge(s: &[u8]) -> Judged
@@ -112,48 +109,12 @@ pub fn accept(s: &[u8], f: TrackFacts, t: &mut [u64]) -> Verdict
     }
 }
 
-// Writes the earliest presentation times of an accepted track, whose boundaries are in one table, at the front of another.
-fn write_earliest(s: &[u8], f: TrackFacts, t: &[u64], u: &mut [u64])
-    requires { Known s.now f × Begins (boundaries s.now) t.now × (length (earliest_times s.now) ≤ length u.old) }
-    ensures { u.new ≡ earliest_times s.now ++ drop (length (earliest_times s.now)) u.old }
-{
-    if f.plain {
-        if f.prompt {
-            write_prompt(t, u, f.fragments as usize, f.header.media);
-            return;
-        }
-    }
-    write_times(s, f, u);
-}
-
-// An accepted track: room in both tables, the boundaries and the earliest presentation times.
-fn accept_both(s: &[u8], f: TrackFacts, t: &mut [u64], u: &mut [u64]) -> Verdict
-    requires { Known s.now f }
-    ensures { PermitsBoth room_of_both s.now t.old u.old result t.new u.new }
-{
-    if (t.len() as u64) <= f.fragments {
-        return rules::refusal(23, 0, 0);
-    }
-    if (u.len() as u64) < f.fragments {
-        return rules::refusal(23, 0, 0);
-    }
-    write_boundaries(s, f, t);
-    write_earliest(s, f, t, u);
-    Verdict {
-        number: 0,
-        track: 0,
-        place: 0,
-        count: f.fragments,
-        timescale: f.header.timescale as u64,
-    }
-}
-
-// The track job: every rule, then room in both tables, the boundaries and the earliest presentation times.
-pub fn track_job(s: &[u8], t: &mut [u64], u: &mut [u64]) -> Verdict
-    ensures { PermitsBoth track_outcome s.now t.old u.old result t.new u.new }
+// The track job: every rule, then room, and the boundaries.
+pub fn track_job(s: &[u8], t: &mut [u64]) -> Verdict
+    ensures { Permits track_outcome s.now t.old result t.new }
 {
     match judge(s) {
-        Judged::Accepted(f) => accept_both(s, f, t, u),
+        Judged::Accepted(f) => accept(s, f, t),
         Judged::Refused {
             number,
             track,

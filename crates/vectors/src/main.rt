@@ -1,8 +1,6 @@
 // Reads test cases from standard input to its end, and prints a line for each: the job, its verdict, and a sum over the
 // table after it. A case: a byte for the job (0 index, 1 track, 2 set), four bytes for the table's room, four bytes for
-// the length, and that many bytes. Both tables of a track have that room, and the sum is one over both. For job 6, a track too,
-// the second table has that room and the first two numbers more.
-// For job 3 it prints what the program `intake` prints for the bytes; the room is for nothing.
+// the length, and that many bytes. For job 3 it prints what the program `intake` prints for the bytes; the room is for nothing.
 // For job 4 it prints what the program `stream` prints for them; the room is the length of the pieces, or 0 for one piece.
 // For job 5 it prints nothing: its bytes, and behind them as many empty boxes `free` as the room says, stand before those of
 // the next case, so that a slice of many boxes is stored in few bytes.
@@ -41,10 +39,13 @@ fn sum_of(t: &[u64]) -> u64
     h
 }
 
-// The verdict of a job with one table.
+// The verdict of a job.
 fn run_job(job: u8, s: &[u8], t: &mut [u64]) -> Verdict {
     if job == 0 {
         return framing::index_job(s, t);
+    }
+    if job == 1 {
+        return track::track_job(s, t);
     }
     set::set_job(s, t)
 }
@@ -88,13 +89,6 @@ fn print_answer(s: &[u8], cut: usize) {
     io::write_all(STDOUT_FILENO, &text[..n]);
 }
 
-// Prints the line of a case.
-fn print_line(job: u8, v: Verdict, sum: u64) {
-    let mut line = [0u8; 160];
-    let n = lines::case_line(job as u64, v, sum, &mut line);
-    io::write_all(STDOUT_FILENO, &line[..n]);
-}
-
 // Runs a case with a table and prints its line, or its text.
 fn print_case(job: u8, s: &[u8], t: &mut [u64]) {
     if job == 3 {
@@ -103,50 +97,16 @@ fn print_case(job: u8, s: &[u8], t: &mut [u64]) {
     }
     fill(t);
     let v = run_job(job, s, t);
-    print_line(job, v, sum_of(t));
-}
-
-// Runs a case of a track with its two tables and prints its line.
-fn print_track(job: u8, s: &[u8], t: &mut [u64], u: &mut [u64]) {
-    fill(t);
-    fill(u);
-    let v = track::track_job(s, t, u);
-    print_line(job, v, (sum_of(t) * 31 + sum_of(u)) % 1000000007);
-}
-
-// Runs a case of a track, of whose tables the first has some numbers more than the second; answers whether both have their room.
-fn run_track(
-    job: u8,
-    more: usize,
-    room: usize,
-    s: &[u8],
-    table: &mut [u64],
-    times: &mut [u64],
-) -> bool {
-    if times.len() < room {
-        return false;
-    }
-    if table.len() < more {
-        return false;
-    }
-    if table.len() - more < room {
-        return false;
-    }
-    print_track(job, s, &mut table[..room + more], &mut times[..room]);
-    true
+    let mut line = [0u8; 160];
+    let n = lines::case_line(job as u64, v, sum_of(t), &mut line);
+    io::write_all(STDOUT_FILENO, &line[..n]);
 }
 
 // Runs a case and prints what it comes to; answers whether the table has its room.
-fn run_case(job: u8, room: usize, s: &[u8], table: &mut [u64], times: &mut [u64]) -> bool {
+fn run_case(job: u8, room: usize, s: &[u8], table: &mut [u64]) -> bool {
     if job == 4 {
         print_answer(s, room);
         return true;
-    }
-    if job == 1 {
-        return run_track(job, 0, room, s, table, times);
-    }
-    if job == 6 {
-        return run_track(job, 2, room, s, table, times);
     }
     if table.len() < room {
         return false;
@@ -181,7 +141,7 @@ fn put_boxes(bytes: &mut [u8], n: usize, boxes: usize) -> Left {
 }
 
 // Reads a case behind the bytes that are held, and prints what it comes to.
-fn next_case(bytes: &mut [u8], held: usize, table: &mut [u64], times: &mut [u64]) -> Left {
+fn next_case(bytes: &mut [u8], held: usize, table: &mut [u64]) -> Left {
     let mut head = [0u8; 9];
     if io::read_full(STDIN_FILENO, &mut head) < 9 {
         return Left::NoCase;
@@ -201,7 +161,7 @@ fn next_case(bytes: &mut [u8], held: usize, table: &mut [u64], times: &mut [u64]
     if head[0] == 5 {
         return put_boxes(bytes, end, room);
     }
-    if !run_case(head[0], room, &bytes[..end], table, times) {
+    if !run_case(head[0], room, &bytes[..end], table) {
         return Left::NoCase;
     }
     Left::Held(0)
@@ -209,11 +169,11 @@ fn next_case(bytes: &mut [u8], held: usize, table: &mut [u64], times: &mut [u64]
 
 // Runs every case to the end of the input. A proved loop has to end, and nothing says that an input does: the loop counts
 // its turns down, from a number that no run uses up.
-fn run_cases(bytes: &mut [u8], table: &mut [u64], times: &mut [u64]) {
+fn run_cases(bytes: &mut [u8], table: &mut [u64]) {
     let mut held = 0;
     let mut turns = u64::MAX;
     while turns > 0 {
-        let Left::Held(n) = next_case(bytes, held, table, times) else {
+        let Left::Held(n) = next_case(bytes, held, table) else {
             return;
         };
         held = n;
@@ -222,10 +182,9 @@ fn run_cases(bytes: &mut [u8], table: &mut [u64], times: &mut [u64]) {
 }
 
 // The bytes hold what `intake` takes and a byte more, beside as many empty boxes as rule 5 allows; the table holds the index of
-// as many boxes, and the second one of a track a number for each.
+// as many boxes.
 fn main() {
     let mut bytes = [0u8; INPUT_LIMIT + 1 + BOX_LIMIT * 8];
     let mut table = [0u64; BOX_LIMIT * 4];
-    let mut times = [0u64; BOX_LIMIT];
-    run_cases(&mut bytes, &mut table, &mut times);
+    run_cases(&mut bytes, &mut table);
 }
