@@ -1,4 +1,6 @@
 // Boxes in bytes: one header, and the containers.
+#![tactic(auto)]
+
 pub mod kinds;
 
 ghost use Rattle.std.specs.Prelude.{◌≡◌, ◌+◌, ◌-◌, ◌≤◌, length};

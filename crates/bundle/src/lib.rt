@@ -1,4 +1,6 @@
 // The bundle: its records read, rule 24, and the front of a record as bytes.
+#![tactic(auto)]
+
 ghost use Rattle.std.specs.Prelude.{◌≡◌, length};
 ghost use Rattle.rules.specs.Bundle.{record_at, tracks};
 ghost use Rattle.bundle.specs.Says.{MarkBounds, SaysBundle, ended_of};
@@ -13,7 +15,7 @@ pub const RECORD_LIMIT: u64 = 16;
 const MARK: u32 = 0x5357;
 
 // How a bundle is framed: its number of records, or the first bad one with the good ones before it.
-#[derive(Drop)]
+#[derive(Clone, Copy)]
 pub enum Bundled {
     Good(u64),
     Broken { track: u64, place: u64 },

@@ -8,28 +8,28 @@ use fields::Version;
 use rules::{Defaults, Spot};
 
 // What an `mfhd` says: nothing that a rule asks for, or that it has another form.
-#[derive(Drop)]
+#[derive(Clone, Copy)]
 pub enum Mfhd {
     Plain,
     Wrong,
 }
 
 // What a `tfhd` says: its flags, its track ID and the defaults with its own, or that it has another form.
-#[derive(Drop)]
+#[derive(Clone, Copy)]
 pub enum Tfhd {
     Of { flags: u32, id: u32, own: Defaults },
     Wrong,
 }
 
 // What a `tfdt` says: the chunk's start, or that it has another form.
-#[derive(Drop)]
+#[derive(Clone, Copy)]
 pub enum Tfdt {
     Of(u64),
     Wrong,
 }
 
 // Where the boxes of a chunk stand in its `moof`, of the runs the first.
-#[derive(Drop)]
+#[derive(Clone, Copy)]
 pub struct InMoof {
     pub mfhd: Spot,
     pub traf: Spot,
@@ -39,7 +39,7 @@ pub struct InMoof {
 }
 
 // What the bodies before the runs say: the flags and the track ID of `tfhd`, the start, and the defaults with the chunk's own.
-#[derive(Drop)]
+#[derive(Clone, Copy)]
 pub struct BodyValues {
     pub flags: u32,
     pub id: u32,

@@ -1,4 +1,6 @@
 // One chunk: rules 14 to 22 over the bytes of its `moof`.
+#![tactic(auto)]
+
 ghost use Rattle.std.specs.Prelude.{◌≡◌, ◌≤◌, length};
 ghost use Rattle.rules.specs.Limits.{byte_limit};
 ghost use Rattle.rules.specs.Counts.{counts};
@@ -19,7 +21,7 @@ mod layout;
 mod values;
 
 // A good chunk's start and end, and whether its first sample is a sync sample.
-#[derive(Drop)]
+#[derive(Clone, Copy)]
 pub struct Interval {
     pub start: u64,
     pub end: u64,
@@ -27,7 +29,7 @@ pub struct Interval {
 }
 
 // A chunk is good, or a rule breaks with its number and its place in the `moof`.
-#[derive(Drop)]
+#[derive(Clone, Copy)]
 pub enum Chunk {
     Good(Interval),
     Refused { number: u64, place: u64 },

@@ -16,7 +16,7 @@ use runs::{SAMPLE_LIMIT, Totals};
 const TICK_LIMIT: u64 = 9223372036854775807;
 
 // The chunk's end, or that its duration is 0 or its end over 2^63 - 1.
-#[derive(Drop)]
+#[derive(Clone, Copy)]
 pub enum Lasting {
     Until(u64),
     Wrong,

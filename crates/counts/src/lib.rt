@@ -1,4 +1,6 @@
 // Box counts: what a container wants of its boxes, seen in one walk over them and judged entry by entry.
+#![tactic(auto)]
+
 ghost use Rattle.std.specs.Prelude.{◌≡◌, ◌≤◌, [], ◌∷◌, length};
 ghost use Rattle.rules.specs.Rules.{PlacedUpTo};
 ghost use Rattle.rules.specs.Counts.{wanted, one_of, at_most_one_of, some_of, counted, counts, counts_if};
@@ -9,7 +11,7 @@ use rules::{Entry, Look, Rule, Spot};
 
 // What is seen of an entry: no box, one, or more (then the count is 2); the first of them, or the container where there is none;
 // and the place of the second, or the place where the container's boxes begin where there is none.
-#[derive(Drop)]
+#[derive(Clone, Copy)]
 pub struct Sight {
     pub count: usize,
     pub first: Spot,
@@ -17,7 +19,7 @@ pub struct Sight {
 }
 
 // What a container's boxes come to: its counts as a rule, and what is seen of each entry.
-#[derive(Drop)]
+#[derive(Clone, Copy)]
 pub struct Counted {
     pub rule: Rule,
     pub a: Sight,
@@ -132,7 +134,7 @@ fn count_entry(number: u64, container: usize, e: Entry, n: usize, p: usize) -> R
 }
 
 // What is seen of three entries.
-#[derive(Drop)]
+#[derive(Clone, Copy)]
 struct Three {
     a: Sight,
     b: Sight,

@@ -1,5 +1,7 @@
 // The bodies of boxes that stand in a slice: which form a body has, and the numbers in it. The size is tested once; every number read then stands
 // inside the box.
+#![tactic(auto)]
+
 ghost use Rattle.std.specs.Prelude.{◌≡◌, ◌+◌, ◌<◌, ◌≤◌};
 ghost use Rattle.numbers.specs.Numbers.{be8};
 ghost use Rattle.rules.specs.Boxes.{head_of};
@@ -10,7 +12,7 @@ ghost use Rattle.fields.specs.Versions.{SaysVersion};
 use rules::Spot;
 
 // Which version a body of one of two sizes has, or that it has neither.
-#[derive(Drop)]
+#[derive(Clone, Copy)]
 pub enum Version {
     Zero,
     One,

@@ -1,4 +1,6 @@
 // The C interface: the three jobs, and the form that takes pieces, over memory that the caller lends; include/flangemint.h declares them.
+#![tactic(auto)]
+
 ghost use Rattle.std.specs.Prelude.{◌≡◌};
 ghost use Rattle.rules.specs.Track.{index_outcome, track_outcome};
 ghost use Rattle.rules.specs.Set.{set_outcome};

@@ -1,4 +1,6 @@
 // Framing, rules 2 to 5 over the boxes of a slice, and the index job.
+#![tactic(auto)]
+
 ghost use Rattle.std.specs.Prelude.{◌≡◌, [], ◌∷◌, ◌+◌, ◌≤◌, length};
 ghost use Rattle.std.proofs.lemmas.List.Edits.{sets};
 ghost use Rattle.rules.specs.Boxes.{forest};
@@ -17,7 +19,7 @@ pub const BYTE_LIMIT: usize = 1073741824;
 pub const BOX_LIMIT: usize = 65536;
 
 // What reading one box comes to: past it, with what its header tells and the boxes so far; no byte left; or a refusal.
-#[derive(Drop)]
+#[derive(Clone, Copy)]
 pub enum Step {
     Past {
         head: usize,
@@ -167,7 +169,7 @@ pub fn frame(s: &[u8]) -> Framing
 }
 
 // What writing one box comes to: past it, with the next place of the slice and of the table; or no box is there.
-#[derive(Drop)]
+#[derive(Clone, Copy)]
 enum Wrote {
     Past { next: usize, row: usize },
     Done,

@@ -10,28 +10,28 @@ use fields::Version;
 use rules::{Defaults, Spot};
 
 // What the body of `mvhd` is.
-#[derive(Drop)]
+#[derive(Clone, Copy)]
 pub enum Mvhd {
     Plain,
     Wrong,
 }
 
 // What a body tells: the number that later rules need of it, or that it is wrong.
-#[derive(Drop)]
+#[derive(Clone, Copy)]
 pub enum Reading {
     Tells(u32),
     Wrong,
 }
 
 // What `trex` tells: its track ID and its defaults, or that it is wrong.
-#[derive(Drop)]
+#[derive(Clone, Copy)]
 pub enum Trex {
     Of { id: u32, defaults: Defaults },
     Wrong,
 }
 
 // What `tkhd`, `mdhd`, `hdlr` and `stsd` tell.
-#[derive(Drop)]
+#[derive(Clone, Copy)]
 pub struct Heads {
     pub id: u32,
     pub timescale: u32,
@@ -40,7 +40,7 @@ pub struct Heads {
 }
 
 // What all bodies tell: of a sample table its count, of `trex` its track ID and its defaults.
-#[derive(Drop)]
+#[derive(Clone, Copy)]
 pub struct Values {
     pub heads: Heads,
     pub stts: u32,
@@ -52,7 +52,7 @@ pub struct Values {
 }
 
 // What rule 8 answers: what the bodies tell, or the place of the first wrong one.
-#[derive(Drop)]
+#[derive(Clone, Copy)]
 pub enum Bodies {
     Tell(Values),
     Wrong(usize),

@@ -8,7 +8,7 @@ use counts::{count_boxes, counts_if};
 use rules::{Entry, Rule, Spot, first_broken};
 
 // The counts in `trak`, its `edts` and its `mdia`, and where their boxes stand.
-#[derive(Drop)]
+#[derive(Clone, Copy)]
 pub struct InTrak {
     pub trak: Rule,
     pub edts: Rule,
@@ -20,7 +20,7 @@ pub struct InTrak {
 }
 
 // The counts in `minf`, its `dinf` and its `stbl`, and where their boxes stand.
-#[derive(Drop)]
+#[derive(Clone, Copy)]
 pub struct InMinf {
     pub minf: Rule,
     pub dinf: Rule,
@@ -34,7 +34,7 @@ pub struct InMinf {
 }
 
 // What rule 7 says, and where the header's boxes stand in `moov`.
-#[derive(Drop)]
+#[derive(Clone, Copy)]
 pub struct Located {
     pub rule: Rule,
     pub mvhd: Spot,

@@ -1,4 +1,6 @@
 // Rules 7 to 13: the header, over what `ftyp` tells and the bytes of `moov`, whole. Every place is one in those bytes.
+#![tactic(auto)]
+
 ghost use Rattle.std.specs.Prelude.{◌≡◌, length};
 ghost use Rattle.rules.specs.Header.{rule7};
 ghost use Rattle.rules.specs.declared.Ftyp.TheVariants.{Branded};
@@ -19,7 +21,7 @@ mod letters;
 mod values;
 
 // What a good header tells: its values, and where `mdhd` and `hdlr` stand in `moov`.
-#[derive(Drop)]
+#[derive(Clone, Copy)]
 pub struct HeaderFacts {
     pub header: Header,
     pub mdhd: usize,
@@ -27,7 +29,7 @@ pub struct HeaderFacts {
 }
 
 // What rules 7 to 13 answer: the header's facts, a refusal at `ftyp`, or one at a place of `moov`.
-#[derive(Drop)]
+#[derive(Clone, Copy)]
 pub enum HeaderAnswer {
     Good(HeaderFacts),
     OfFtyp(u64),

@@ -1,5 +1,7 @@
 // Reads a set from standard input and prints its verdict: the accepted line and the boundaries one a line, or the
 // refused line.
+#![tactic(auto)]
+
 ghost use Rattle.std.specs.Prelude.{◌≡◌, ◌<◌, length};
 ghost use Rattle.printed.specs.Printed.{input_limit, printed};
 ghost use Rattle.intake.specs.Held.{HeldWithin};
@@ -8,7 +10,7 @@ use libc::{STDIN_FILENO, STDOUT_FILENO};
 use printed::{INPUT_LIMIT, TEXT_ROOM};
 
 // What was read of the input: so many bytes, now at the start of the buffer, or it can't be read.
-#[derive(Drop)]
+#[derive(Clone, Copy)]
 enum Input {
     Held(usize),
     Unread,

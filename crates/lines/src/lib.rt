@@ -1,4 +1,6 @@
 // What the programs print, as lines in a lent buffer.
+#![tactic(auto)]
+
 ghost use Rattle.std.specs.Prelude.{◌∷◌, [], ◌+◌, ◌*◌, ◌≤◌, ◌<◌, length, take};
 ghost use Rattle.lines.specs.Lines.{digit, decimal, field_of, line_end, spaced, case_line};
 ghost use Rattle.lines.specs.Lines.{accepted_line, refused_line, tick_line, tick_lines, over_line, verdict_lines, set_lines, answer_lines};

@@ -1,5 +1,7 @@
 // Big-endian numbers at a place of a slice. `be2` to `be8` are total: a byte past the end reads as 0; `near3` to `near8` ask for a
 // place inside.
+#![tactic(auto)]
+
 ghost use Rattle.std.specs.Prelude.{◌≡◌, ◌+◌, ◌*◌, ◌/◌, ◌%◌, ◌<◌, ◌≤◌, length};
 ghost use Rattle.numbers.specs.Numbers.{byte, be2, be3, be4, be8, has, signed, is_place};
 

@@ -3,6 +3,8 @@
 // many, a file can't be read or the bundle would be too long, there is a line on standard error and nothing on standard
 // output. A file that has grown since it was counted gives the bytes that were counted. At one that has become shorter the
 // bundle ends inside its record, which a check refuses with 24, and there is a line on standard error.
+#![tactic(auto)]
+
 ghost use Rattle.std.specs.Prelude.{◌+◌, ◌≤◌, ◌<◌, ◌≡◌, length, take, get_or};
 ghost use Rattle.rules.specs.Limits.{byte_limit};
 ghost use Rattle.bundle.specs.Front.{front_of, bundle_length};
@@ -14,7 +16,7 @@ use libc::{SEEK_SET, STDERR_FILENO, STDOUT_FILENO};
 const LIMIT: u64 = 1073741824;
 
 // What counting a file found: its bytes, that the bundle would be too long, or that it can't be read.
-#[derive(Drop)]
+#[derive(Clone, Copy)]
 enum Size {
     Bytes(u64),
     TooLong,
@@ -22,14 +24,14 @@ enum Size {
 }
 
 // A file made ready: its descriptor, at its start, and its bytes.
-#[derive(Drop)]
+#[derive(Clone, Copy)]
 enum File {
     Ready(i32, u32),
     Refused,
 }
 
 // Where writing the bundle has come to: so many of its bytes are written, or it can't be written on.
-#[derive(Drop)]
+#[derive(Clone, Copy)]
 enum Place {
     At(u64),
     Stopped,

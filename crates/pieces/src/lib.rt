@@ -1,5 +1,7 @@
 // A track in pieces: `start`, `feed` with a piece of any length, `finish`. The caller lends the memory between them: numbers, the bytes of a
 // header that is not whole yet, and a buffer for the one box of the top level that is gathered. Nothing of a data box is kept.
+#![tactic(auto)]
+
 ghost use Rattle.std.specs.Prelude.{◌≡◌, [], ◌+◌, ◌≤◌, leb, length};
 ghost use Rattle.numbers.specs.Numbers.{when};
 ghost use Rattle.rules.specs.Limits.{byte_limit, box_limit};

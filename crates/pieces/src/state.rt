@@ -12,7 +12,7 @@ pub const NUMBERS: usize = 24;
 
 // Where the bytes so far end: nowhere, where no `start` was; so many bytes into a box's header; so many bytes into a box that is gathered; so many
 // bytes before the end of the box at a place, which passes by; or anywhere, where a framing refusal was met.
-#[derive(Drop)]
+#[derive(Clone, Copy)]
 pub enum Phase {
     Unstarted,
     Head(usize),
@@ -22,7 +22,7 @@ pub enum Phase {
 }
 
 // A state: the phase, the bytes so far, the boxes so far, and what they came to.
-#[derive(Drop)]
+#[derive(Clone, Copy)]
 pub struct Progress {
     pub phase: Phase,
     pub total: usize,
@@ -31,7 +31,7 @@ pub struct Progress {
 }
 
 // The number of a case with its values.
-#[derive(Drop)]
+#[derive(Clone, Copy)]
 struct Tagged {
     tag: u64,
     a: u64,
@@ -39,7 +39,7 @@ struct Tagged {
 }
 
 // The number of a course's case, with the rules so far and the spot of the `moof` that waits.
-#[derive(Drop)]
+#[derive(Clone, Copy)]
 struct CourseParts {
     tag: u64,
     judged: Judged,

@@ -17,7 +17,7 @@ use rules::{Course, Path, Reached, Spot};
 use track::course::{and_box, passes};
 
 // The state after a step, and the bytes that the step took.
-#[derive(Drop)]
+#[derive(Clone, Copy)]
 pub struct Moved {
     pub state: Progress,
     pub used: usize,

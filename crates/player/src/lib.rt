@@ -1,1 +1,2 @@
 // No code: the player computed on small tracks. See specs/.
+#![tactic(auto)]

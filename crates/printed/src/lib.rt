@@ -1,4 +1,6 @@
 // What the program `intake` prints for the bytes of its input.
+#![tactic(auto)]
+
 ghost use Rattle.lines.specs.Puts.{Line};
 ghost use Rattle.printed.specs.Printed.{printed};
 

@@ -1,9 +1,11 @@
 // The types of the written rules, most of them shared with the code, and how the code puts rules together. The rules themselves are definitions: see specs/.
+#![tactic(auto)]
+
 ghost use Rattle.std.specs.Prelude.{◌≡◌};
 ghost use Rattle.rules.specs.Rules.{◌then◌, must, of_track};
 
 // Where a run of boxes stands: at the top, in a container that holds containers, or in any other.
-#[derive(Drop)]
+#[derive(Clone, Copy)]
 pub enum Path {
     Top,
     Moov,
@@ -15,14 +17,14 @@ pub enum Path {
 }
 
 // What a box type is on a path: a leaf, or a container whose run stands on another path.
-#[derive(Drop)]
+#[derive(Clone, Copy)]
 pub enum Inside {
     Leaf,
     Container(Path),
 }
 
 // What stands at a place of a slice: nothing, a broken header, or a box.
-#[derive(Drop)]
+#[derive(Clone, Copy)]
 pub enum Look {
     Nothing,
     Short,
@@ -32,7 +34,7 @@ pub enum Look {
 }
 
 // Where a box stands in a slice: its place, its header's length and its whole size.
-#[derive(Drop)]
+#[derive(Clone, Copy)]
 pub struct Spot {
     pub at: usize,
     pub head: usize,
@@ -40,14 +42,14 @@ pub struct Spot {
 }
 
 // How a run of boxes is framed: whole, with the number of boxes so far, or broken at a place.
-#[derive(Drop)]
+#[derive(Clone, Copy)]
 pub enum Framing {
     Framed(usize),
     Misframed { number: u64, place: usize },
 }
 
 // The boxes of a kind in a run: none, one with its place, or more with the first two places.
-#[derive(Drop)]
+#[derive(Clone, Copy)]
 pub enum Seen {
     Never,
     Once(usize),
@@ -55,7 +57,7 @@ pub enum Seen {
 }
 
 // What a container wants of its boxes: nothing more, one of a type, at most one, one or more, or one in all of three types.
-#[derive(Drop)]
+#[derive(Clone, Copy)]
 pub enum Entry {
     Nothing,
     One(u32),
@@ -65,28 +67,28 @@ pub enum Entry {
 }
 
 // What `ftyp` tells: whether `cmfc` or `cmf2` is among its compatible brands, or that its body is wrong.
-#[derive(Drop)]
+#[derive(Clone, Copy)]
 pub enum Ftyp {
     Branded(bool),
     Wrong,
 }
 
 // The start of the track's first chunk: unset before it.
-#[derive(Drop)]
+#[derive(Clone, Copy)]
 pub enum FirstTick {
     Unset,
     Tick(u64),
 }
 
 // The end of the chunk before: unset before the track's first.
-#[derive(Drop)]
+#[derive(Clone, Copy)]
 pub enum Previous {
     Unset,
     End(u64),
 }
 
 // A stage of rule 6: what the top level has read so far.
-#[derive(Drop)]
+#[derive(Clone, Copy)]
 pub enum Stage {
     Start,
     Typed,
@@ -96,14 +98,14 @@ pub enum Stage {
 }
 
 // A stage's step: to another stage, or to where no continuation is good.
-#[derive(Drop)]
+#[derive(Clone, Copy)]
 pub enum Stepped {
     To(Stage),
     Wrong,
 }
 
 // What stands at a place of a bundle: nothing, no good record, or a record with its track's length.
-#[derive(Drop)]
+#[derive(Clone, Copy)]
 pub enum Mark {
     Nothing,
     Wrong,
@@ -111,14 +113,14 @@ pub enum Mark {
 }
 
 // What a rule, or a list of rules in their order, says.
-#[derive(Drop)]
+#[derive(Clone, Copy)]
 pub enum Rule {
     Holds,
     Breaks { number: u64, track: u64, place: u64 },
 }
 
 // The places of the header's boxes, counted in the bytes of `moov`.
-#[derive(Drop)]
+#[derive(Clone, Copy)]
 pub struct Places {
     pub mvhd: usize,
     pub tkhd: usize,
@@ -134,7 +136,7 @@ pub struct Places {
 }
 
 // A default for each sample value.
-#[derive(Drop)]
+#[derive(Clone, Copy)]
 pub struct Defaults {
     pub duration: u32,
     pub size: u32,
@@ -142,7 +144,7 @@ pub struct Defaults {
 }
 
 // What the header tells the chunks and the set.
-#[derive(Drop)]
+#[derive(Clone, Copy)]
 pub struct Header {
     pub timescale: u32,
     pub id: u32,
@@ -152,7 +154,7 @@ pub struct Header {
 
 // What is known of a track: what its header tells, where `mdhd` and `hdlr` stand in it, the number of its fragments, whether the first sample of
 // each chunk is sync, so that each begins one, the first start and the last end.
-#[derive(Drop)]
+#[derive(Clone, Copy)]
 pub struct TrackFacts {
     pub header: Header,
     pub mdhd: u64,
@@ -164,7 +166,7 @@ pub struct TrackFacts {
 }
 
 // What the rules of a track come to: all hold, with what is known of it, or the first that breaks.
-#[derive(Drop)]
+#[derive(Clone, Copy)]
 pub enum Judged {
     Accepted(TrackFacts),
     Refused { number: u64, track: u64, place: u64 },
@@ -172,7 +174,7 @@ pub enum Judged {
 
 // A stage of rule 6 with what the boxes up to it brought: nothing yet; what `ftyp` tells; the header's rules; a `moof` that waits for its
 // `mdat`; a chunk's rules.
-#[derive(Drop)]
+#[derive(Clone, Copy)]
 pub enum Reached {
     Start,
     Typed(Ftyp),
@@ -182,14 +184,14 @@ pub enum Reached {
 }
 
 // What a track has come to after some of its boxes: a stage that they reached, or the place where the order breaks.
-#[derive(Drop)]
+#[derive(Clone, Copy)]
 pub enum Course {
     On(Reached),
     Broken(usize),
 }
 
 // What a job answers.
-#[derive(Drop)]
+#[derive(Clone, Copy)]
 pub struct Verdict {
     pub number: u64,
     pub track: u64,
@@ -199,7 +201,7 @@ pub struct Verdict {
 }
 
 // What the form that takes pieces answers: a verdict, and the first and the last boundary.
-#[derive(Drop)]
+#[derive(Clone, Copy)]
 pub struct Answer {
     pub verdict: Verdict,
     pub first: u64,

@@ -1,5 +1,7 @@
 // The runs of a chunk in one walk: rules 15 and 16 of them, their samples in all, and, while they are asked for, what the samples
 // come to, for rules 20 to 22.
+#![tactic(auto)]
+
 ghost use Rattle.std.specs.Prelude.{◌≡◌, ◌+◌, ◌*◌, ◌≤◌, length, take};
 ghost use Rattle.rules.specs.Limits.{byte_limit, sample_limit};
 ghost use Rattle.rules.specs.Fields.{box_flags};
@@ -22,7 +24,7 @@ pub const SAMPLE_LIMIT: u64 = 65536;
 
 // What the samples of runs span: their durations and sizes in all, whether no run was passed, whether the first sample, once there is
 // one, is a sync sample, and rule 22 of the runs.
-#[derive(Drop)]
+#[derive(Clone, Copy)]
 pub struct Span {
     pub ticks: u64,
     pub bytes: u64,
@@ -32,7 +34,7 @@ pub struct Span {
 }
 
 // What runs come to: rule 16 of them, their samples in all, and what these span, as long as that is asked for.
-#[derive(Drop)]
+#[derive(Clone, Copy)]
 pub struct Totals {
     pub clash: Rule,
     pub samples: u64,
@@ -40,7 +42,7 @@ pub struct Totals {
 }
 
 // What runs come to, or the place of the first that has another form.
-#[derive(Drop)]
+#[derive(Clone, Copy)]
 pub enum Runs {
     Of(Totals),
     Wrong(u64),

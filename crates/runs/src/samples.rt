@@ -12,7 +12,7 @@ use crate::layout;
 use rules::{Defaults, Spot};
 
 // Durations and sizes in all.
-#[derive(Drop)]
+#[derive(Clone, Copy)]
 pub struct Sums {
     pub ticks: u64,
     pub bytes: u64,

@@ -7,7 +7,7 @@ use fields::Version;
 use rules::Spot;
 
 // What a `trun` says: its flags and its samples, or that it has another form.
-#[derive(Drop)]
+#[derive(Clone, Copy)]
 pub enum Trun {
     Of { flags: u32, count: u32 },
     Wrong,

@@ -1,4 +1,6 @@
 // The set check: the bundle framed whole, each track by itself, each beside track 0, then room.
+#![tactic(auto)]
+
 ghost use Rattle.std.specs.Prelude.{◌≡◌, ◌+◌, ◌≤◌, length};
 ghost use Rattle.rules.specs.Limits.{byte_limit};
 ghost use Rattle.rules.specs.Rules.{◌then◌, of_track};

@@ -1,5 +1,7 @@
 // Reads one track of any permitted length from standard input, in the pieces that the reads bring, and prints its verdict: the accepted line, the
 // first boundary and the last, one a line; or the refused line.
+#![tactic(auto)]
+
 ghost use Rattle.std.specs.Prelude.{◌≡◌, []};
 ghost use Rattle.lines.specs.Lines.{answer_lines};
 ghost use Rattle.pieces.specs.Form.{memory, resume};

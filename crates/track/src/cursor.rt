@@ -11,7 +11,7 @@ use rules::{Defaults, Header, Look, Spot};
 
 // A fragment, with the place of its first `moof`, where the walk goes on behind that, and its start; or no fragment more. It ends where the next
 // one starts, the last one at the track's last end.
-#[derive(Drop)]
+#[derive(Clone, Copy)]
 pub enum Cursor {
     At {
         place: usize,

@@ -4,6 +4,8 @@
 // For job 4 it prints what the program `stream` prints for them; the room is the length of the pieces, or 0 for one piece.
 // For job 5 it prints nothing: its bytes, and behind them as many empty boxes `free` as the room says, stand before those of
 // the next case, so that a slice of many boxes is stored in few bytes.
+#![tactic(auto)]
+
 ghost use Rattle.std.specs.Prelude.{◌≡◌, length};
 ghost use Rattle.vectors.specs.Tables.{FilledTo, sum_of};
 
@@ -116,7 +118,7 @@ fn run_case(job: u8, room: usize, s: &[u8], table: &mut [u64]) -> bool {
 }
 
 // What a case leaves: so many bytes before those of the next one; or no case was there, or none that the program can take.
-#[derive(Drop)]
+#[derive(Clone, Copy)]
 enum Left {
     Held(usize),
     NoCase,
