@@ -1,0 +1,26 @@
+-- `chunk::again::start_in` meets its contract. Assumes nothing.
+use mathlib.Core.Path.{◌≡◌, sym, ap, ◌∙◌}
+use Prim.Native.Nat.{ℕ}
+use Rattle.rules.specs.Kinds.{tfdt}
+use Rattle.rules.specs.Counts.{child}
+use Rattle.rules.specs.Fields.{field}
+use Rattle.rules.specs.Chunk.{tfdt_in}
+use Rattle.fields.proofs.Forms.{version_is}
+use Rattle.chunk.proofs.Formed.{start_other, start_one}
+use Rattle.chunk.proofs.again.start_in.Goals as goal
+
+-- the `tfdt` is the chunk's
+place : (c : goal.After-first_child-tfdt) → c.first_child-tfdt.result.at ≡ tfdt_in c.args.m.now
+unfolding tfdt_in
+place c = c.first_child-tfdt.ensures.place ∙ ap (λ (t : ℕ). child c.args.m.now t tfdt) c.requires.0.place
+
+pub returns-then-byte-eq1 : goal.returns-then-byte-eq1
+returns-then-byte-eq1 c =
+    let st = c.first_child-tfdt.ensures.stands in
+    start_one _ c.first_child-tfdt.result (place c) _ (version_is _ _ st ∙ sym c.byte.ensures ∙ c.if-byte-eq1.true) (rw st.head c.be8.ensures)
+
+pub returns-else-byte-eq1 : goal.returns-else-byte-eq1
+unfolding field
+returns-else-byte-eq1 c =
+    let st = c.first_child-tfdt.ensures.stands in
+    start_other _ c.first_child-tfdt.result (place c) _ (λ o. c.if-byte-eq1.false (c.byte.ensures ∙ sym (version_is _ _ st) ∙ o)) (rw st.head c.be4.ensures)

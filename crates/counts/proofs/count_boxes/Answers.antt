@@ -1,0 +1,19 @@
+use mathlib.Core.Path.{sym}
+use lib.Seq.{length-take-le}
+use Rattle.counts.proofs.Judged.{begins, judged}
+use Rattle.counts.proofs.count_boxes.Goals as goal
+
+pub slice_bounds-tally-end : goal.slice_bounds-tally-end
+slice_bounds-tally-end c = sym (length-take-le _ _ c.requires.fits)
+
+pub tally-t-requires : goal.tally-t-requires
+tally-t-requires c = begins _ _ c.requires
+
+pub returns : goal.returns
+returns c = judged _ _ c.requires _
+    c.tally-t.ensures
+    c.count_entry.ensures
+    c.count_entry-2.ensures
+    c.first_broken-later.ensures
+    c.count_entry-3.ensures
+    c.first_broken-rule.ensures

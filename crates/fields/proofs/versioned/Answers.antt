@@ -1,0 +1,28 @@
+-- `fields::versioned` meets its contract. Assumes nothing.
+use mathlib.Core.Path.{◌≡◌, ◌∙◌}
+use mathlib.Core.Logic.{⊎_elim}
+use native.Mathlib.Omega.{arith}
+use Rattle.fields.proofs.Forms.{version_is, is_zero, is_one, is_neither}
+use Rattle.fields.proofs.versioned.Goals as goal
+
+pub returns-then-s-body-eq0 : goal.returns-then-s-body-eq0
+returns-then-s-body-eq0 c = let p = c.requires in
+    let e = c.if-payload-zero.true in
+    (is_zero _ _ p.0 _ _ (omega (arith, p.1)) e c.if-s-body-eq0.true, version_is _ _ p.0 ∙ c.if-s-body-eq0.true, omega (arith, e, p.0.holds, p.1))
+
+pub returns-then-s-body-eq1 : goal.returns-then-s-body-eq1
+returns-then-s-body-eq1 c = let p = c.requires in
+    let e = c.if-payload-one.true in
+    (is_one _ _ p.0 _ _ (omega (arith, p.2)) e c.if-s-body-eq1.true, version_is _ _ p.0 ∙ c.if-s-body-eq1.true, omega (arith, e, p.0.holds, p.2))
+
+pub returns-else-s-body-eq1 : goal.returns-else-s-body-eq1
+returns-else-s-body-eq1 c = let p = c.requires in
+    is_neither _ _ p.0 _ _ (omega (arith, p.1)) (omega (arith, p.2))
+    (λ e z. ⊎_elim (λ x. x.2.left z) (λ x. x.left e) c.if-payload-zero.branch)
+    (λ e z. c.if-s-body-eq1.false z)
+
+pub returns-else-payload-one : goal.returns-else-payload-one
+returns-else-payload-one c = let p = c.requires in
+    is_neither _ _ p.0 _ _ (omega (arith, p.1)) (omega (arith, p.2))
+    (λ e z. ⊎_elim (λ x. x.2.left z) (λ x. x.left e) c.if-payload-zero.branch)
+    (λ e z. c.if-payload-one.false e)

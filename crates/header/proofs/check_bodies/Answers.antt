@@ -1,0 +1,31 @@
+-- `header::check_bodies` meets its contract. Assumes nothing.
+use mathlib.Core.Path.{refl}
+use borrow.Author.Rules.{rules}
+use borrow.Author.Tests.{not-true, not-false}
+use Rattle.header.proofs.Valued.{header_is}
+use Rattle.header.proofs.Checked.{bodies_tell, eight_breaks, nine_breaks, values_break, all_hold}
+use Rattle.header.proofs.check_bodies.Goals as goal
+
+pub returns-then-not-branded : goal.returns-then-not-branded
+returns-then-not-branded c = let p = c.requires in
+    let v = bodies_tell _ p.1 _ p.0 c.read_bodies-bodies.ensures c.in-Tell.is in
+    nine_breaks _ p.1 _ p.0 v.1 (not-true _ c.if-not-branded.true)
+
+pub rules_of_values-values-requires : goal.rules_of_values-values-requires
+rules_of_values-values-requires c = let p = c.requires in
+    (p.0, (bodies_tell _ p.1 _ p.0 c.read_bodies-bodies.ensures c.in-Tell.is).0)
+
+pub returns-in-Wrong : goal.returns-in-Wrong
+returns-in-Wrong c = let p = c.requires in
+    eight_breaks _ p.1 _ p.0 _ c.read_bodies-bodies.ensures c.in-Wrong.is
+
+pub returns-in-Breaks : goal.returns-in-Breaks
+returns-in-Breaks c = let p = c.requires in
+    let v = bodies_tell _ p.1 _ p.0 c.read_bodies-bodies.ensures c.in-Tell.is in
+    values_break _ p.1 _ p.0 v.1 (not-false _ c.if-not-branded.false) c.rules_of_values-values.ensures c.in-Breaks.is
+
+pub returns-in-Holds : goal.returns-in-Holds
+returns-in-Holds c = let p = c.requires in
+    let v = bodies_tell _ p.1 _ p.0 c.read_bodies-bodies.ensures c.in-Tell.is in
+    all_hold _ p.1 _ p.0 v.1 (not-false _ c.if-not-branded.false) c.rules_of_values-values.ensures c.in-Holds.is
+    (header_is _ _ _ v.0 refl refl refl refl) refl refl

@@ -1,0 +1,46 @@
+-- `header::containers::in_minf` meets its contract. Assumes nothing.
+use mathlib.Core.Path.{refl}
+use mathlib.Core.List.{[], ◌∷◌}
+use Rattle.rules.specs.Kinds.{stsd, stts, stsc, stsz, stco}
+use Rattle.rules.specs.Header.{dinf_in, stbl_in}
+use Rattle.rules.specs.declared.Entry.TheVariants.{One}
+use Rattle.counts.proofs.Firsts.{counts_1, counts_2}
+use Rattle.boxes.specs.Stands.{StandsAt}
+use Rattle.header.proofs.Found.{met, judged, judged_join}
+use Rattle.header.proofs.containers.in_minf.Goals as goal
+
+-- where `dinf` and `stbl` stand
+dinf : (c : goal.After-count_boxes-k) → StandsAt c.args.m.now (dinf_in c.args.m.now) c.count_boxes-k.result.b.first
+unfolding dinf_in
+dinf c = met c.requires c.count_boxes-k.ensures.b
+
+stbl : (c : goal.After-count_boxes-k) → StandsAt c.args.m.now (stbl_in c.args.m.now) c.count_boxes-k.result.c.first
+unfolding stbl_in
+stbl c = met c.requires c.count_boxes-k.ensures.c
+
+pub count_boxes-k-requires-2 : goal.count_boxes-k-requires-2
+count_boxes-k-requires-2 c = (dinf c).stands
+
+pub count_boxes-k-requires-3 : goal.count_boxes-k-requires-3
+count_boxes-k-requires-3 c = (stbl c).stands
+
+pub count_boxes-k-requires-4 : goal.count_boxes-k-requires-4
+count_boxes-k-requires-4 c = (stbl c).stands
+
+pub returns : goal.returns
+returns c = let x = c.requires in
+    let y = stbl c in
+    let i = c.count_boxes-k.ensures in
+    let k = c.count_boxes-k-3.ensures in
+    let l = c.count_boxes-k-4.ensures in
+    record {
+      minf = judged x i refl;
+      dinf = judged (dinf c) c.count_boxes-k-2.ensures (counts_1 _ _ _ _);
+      stbl = judged_join _ (One stsd ∷ One stts ∷ One stsc ∷ []) (One stsz ∷ One stco ∷ []) c.first_broken.ensures (judged y k refl) (judged y l (counts_2 _ _ _ _ _));
+      media = met x i.a;
+      stsd = met y k.a;
+      stts = met y k.b;
+      stsc = met y k.c;
+      stsz = met y l.a;
+      stco = met y l.b;
+    }

@@ -1,0 +1,41 @@
+-- `header::containers::in_trak` meets its contract. Assumes nothing.
+use mathlib.Core.Path.{refl}
+use mathlib.Core.List.{[], ◌∷◌}
+use Rattle.rules.specs.Kinds.{mdhd, hdlr, elng, minf}
+use Rattle.rules.specs.Header.{mdia_in, minf_in}
+use Rattle.rules.specs.declared.Entry.TheVariants.{One, AtMostOne}
+use Rattle.counts.proofs.Firsts.{counts_1}
+use Rattle.boxes.specs.Stands.{StandsAt}
+use Rattle.header.proofs.Found.{met, judged, judged_if, judged_join}
+use Rattle.header.proofs.containers.in_trak.Goals as goal
+
+-- where `mdia` stands
+mdia : (c : goal.After-count_boxes-k) → StandsAt c.args.m.now (mdia_in c.args.m.now) c.count_boxes-k.result.c.first
+unfolding mdia_in
+mdia c = met c.requires c.count_boxes-k.ensures.c
+
+pub count_boxes-k-requires-2 : goal.count_boxes-k-requires-2
+count_boxes-k-requires-2 c = (mdia c).stands
+
+pub count_boxes-k-requires-3 : goal.count_boxes-k-requires-3
+count_boxes-k-requires-3 c = (mdia c).stands
+
+pub counts_if-requires : goal.counts_if-requires
+counts_if-requires c = c.count_boxes-k.ensures.b.stands
+
+pub returns : goal.returns
+unfolding minf_in
+returns c = let x = c.requires in
+    let y = mdia c in
+    let t = c.count_boxes-k.ensures in
+    let k = c.count_boxes-k-2.ensures in
+    let l = c.count_boxes-k-3.ensures in
+    record {
+      trak = judged x t refl;
+      edts = judged_if x _ t.b c.counts_if.ensures.value c.counts_if.ensures.placed_up_to;
+      mdia = judged_join _ (One mdhd ∷ One hdlr ∷ AtMostOne elng ∷ []) (One minf ∷ []) c.first_broken.ensures (judged y k refl) (judged y l (counts_1 _ _ _ _));
+      tkhd = met x t.a;
+      mdhd = met y k.a;
+      hdlr = met y k.b;
+      minf = met y l.a;
+    }

@@ -1,0 +1,21 @@
+-- `runs::placed` meets its contract. Assumes nothing.
+use Rattle.std.proofs.Common.{sym, ◌∙◌, arith, w32, rules}
+use borrow.Author.Rules.{sfits_of}
+use mir.ValLaws.{to_z-of_z}
+use Rattle.rules.specs.Chunk.{placed, offset_is}
+use Rattle.runs.proofs.Flags.{reach_offset}
+use Rattle.runs.proofs.placed.Goals as goal
+
+pub word-requires : goal.word-requires
+word-requires c =
+    (c.requires.0, omega (arith, c.requires.2, reach_offset c.args.flags (sym c.has.ensures ∙ c.if-has.true)))
+
+pub returns-then-has : goal.returns-then-has
+unfolding placed offset_is
+returns-then-has c =
+    rw (← c.requires.1, ← c.has.ensures, c.if-has.true, ← c.word.ensures, ← c.signed-offset.ensures)
+    (rw (to_z-of_z w32 c.signed-offset.result (sfits_of c.signed-offset.type-inv)) at c.is_place.ensures)
+
+pub returns : goal.returns
+unfolding placed
+returns c = rw (← c.requires.1, ← c.has.ensures, c.if-has.false)

@@ -1,0 +1,14 @@
+-- `track::course::joined` meets its contract. Assumes nothing.
+use Rattle.rules.specs.Course.{joined}
+use Rattle.track.proofs.course.joined.Goals as goal
+
+pub and_chunk-requires : goal.and_chunk-requires
+and_chunk-requires c = let p = c.requires in
+    record { whole_box = p.0; head_bound = (p.1.0, p.1.1, rw c.in-Accepted.is at p.1.2) }
+
+pub returns-in-Accepted : goal.returns-in-Accepted
+returns-in-Accepted c = rw c.in-Accepted.is c.and_chunk.ensures
+
+pub returns-in-Refused : goal.returns-in-Refused
+unfolding joined
+returns-in-Refused c = rw c.in-Refused.is

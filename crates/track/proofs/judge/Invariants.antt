@@ -1,0 +1,11 @@
+-- `track::judge` meets its contract. Assumes nothing.
+use Prim.Native.Nat.{◌-◌}
+use lib.ListN.{length}
+use Rattle.track.proofs.Judging.{Walking, walking_begins, over_limit, waits_low, waits_whole, walking_on, walking_ends, walking_breaks}
+use Rattle.track.proofs.judge.Given as goal
+
+abbrev pub invariant-loop-head : goal.invariant-loop-head
+invariant-loop-head l = Walking l.s l.at l.count l.course
+
+abbrev pub decreases-loop-head : goal.decreases-loop-head
+decreases-loop-head l = length l.s - l.at
