@@ -4,4 +4,6 @@ use Rattle.fields.proofs.flags.Goals as goal
 
 pub returns : goal.returns
 unfolding box_flags
-returns c = rw c.requires.0.head c.near3.ensures
+returns c =
+    let met = rw c.requires.0.head c.near3.ensures in
+    record { value = met.0; upper_bound = met.1 }

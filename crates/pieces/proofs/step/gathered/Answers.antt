@@ -1,5 +1,5 @@
 -- `pieces::step::gathered` meets its contract. Assumes nothing.
-use borrow.Author.Tests.{ne_eqb}
+use borrow.Author.Rules.{rules}
 use Rattle.rules.specs.Pieces.{gathered}
 use Rattle.pieces.proofs.step.gathered.Goals as goal
 
@@ -17,4 +17,4 @@ returns-in-1836019558 c = rw c.in-1836019558.is
 
 pub returns-in_default : goal.returns-in_default
 unfolding gathered
-returns-in_default c = simp (ne_eqb _ _ c.in-1718909296.rest.0.0.1, ne_eqb _ _ c.in-1718909296.rest.0.1, ne_eqb _ _ c.in-1718909296.rest.1)
+returns-in_default c = search rules

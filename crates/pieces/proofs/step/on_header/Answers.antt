@@ -6,14 +6,18 @@ use Rattle.pieces.proofs.Heading.{headed_5, headed_3, headed_passes, headed_pass
 use Rattle.pieces.proofs.step.on_header.Goals as goal
 
 pub returns-then-boxes-ge-BOX_LIMIT : goal.returns-then-boxes-ge-BOX_LIMIT
-returns-then-boxes-ge-BOX_LIMIT c = rw c.stop_at.ensures (headed_5 c.requires c.if-boxes-ge-BOX_LIMIT.true, refl)
+returns-then-boxes-ge-BOX_LIMIT c =
+    let met = rw c.stop_at.ensures (headed_5 c.requires c.if-boxes-ge-BOX_LIMIT.true, refl) in
+    record { means_headed = met.0; kept_len_unchanged = met.1 }
 
 pub returns-then-size-h : goal.returns-then-size-h
-returns-then-size-h c = rw c.stop_at-then-size-h.ensures (
+returns-then-size-h c =
+    let met = rw c.stop_at-then-size-h.ensures (
       headed_3 c.requires c.if-boxes-ge-BOX_LIMIT.false
           (rw c.type_size.ensures at c.if-size-h.true),
       refl,
-    )
+    ) in
+    record { means_headed = met.0; kept_len_unchanged = met.1 }
 
 pub gather-requires : goal.gather-requires
 gather-requires c =

@@ -1,5 +1,5 @@
 -- `track::course::ordered` meets its contract. Assumes nothing.
-use borrow.Author.Tests.{ne_eqb}
+use borrow.Author.Rules.{rules}
 use Rattle.rules.specs.Order.{ordered}
 use Rattle.track.proofs.course.ordered.Goals as goal
 
@@ -21,4 +21,4 @@ returns-in-1835295092 c = rw c.in-1835295092.is
 
 pub returns-in_default : goal.returns-in_default
 unfolding ordered
-returns-in_default c = simp (ne_eqb _ _ c.in-1718909296.rest.0.0.0.1, ne_eqb _ _ c.in-1718909296.rest.0.0.1, ne_eqb _ _ c.in-1718909296.rest.0.1, ne_eqb _ _ c.in-1718909296.rest.1)
+returns-in_default c = search rules
