@@ -4,22 +4,19 @@ use mathlib.Core.List.{List, [], ◌∷◌}
 use Prim.Native.Nat.{ℕ, ◌+◌, ◌≤◌}
 use native.Mathlib.Omega.{arith}
 use borrow.Author.Tests.{ne_eqb}
-use types.Run.{OneOf, miss}
-use denote.Enum.Declared.{tag_of}
 use Rattle.rules.specs.Boxes.{look, boxes, places_of}
 use Rattle.rules.specs.declared.Look.{Look}
 use Rattle.rules.specs.declared.Look.TheVariants.{Nothing, Short, Small, Beyond, Good}
-use Rattle.rules.specs.contracts.Look.{the_type}
 use Rattle.rules.proofs.Forest.{FoundBox, look_found, boxes_by, places_hit, places_miss, places_end}
 use Rattle.boxes.specs.Siblings.{Comes}
 
 -- where no header stands there are no more boxes
-pub over : (s : List ℕ) (at : ℕ) (l : Look) → l ≡ look s at → OneOf (0 ∷ 1 ∷ 2 ∷ 3 ∷ []) (tag_of the_type l) → boxes s at ≡ []
+pub over : (s : List ℕ) (at : ℕ) (l : Look) → l ≡ look s at → ((h z k : ℕ) → l ≡ Good h z k → ⊥) → boxes s at ≡ []
 over s at Nothing e o = boxes_by s at Nothing (sym e)
 over s at Short e o = boxes_by s at Short (sym e)
 over s at Small e o = boxes_by s at Small (sym e)
 over s at Beyond e o = boxes_by s at Beyond (sym e)
-over s at (Good h z k) e o = absurd (miss (0 ∷ 1 ∷ 2 ∷ 3 ∷ []) 4 tt o)
+over s at (Good h z k) e o = absurd (o h z k refl)
 
 -- from `at` to `here` no box of type k was passed
 pub record Passed (s : List ℕ) (at k here : ℕ) : Type 0 where

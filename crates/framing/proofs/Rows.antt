@@ -8,14 +8,11 @@ use native.Mathlib.Omega.{arith}
 use lib.ListN.{length, set, length-append}
 use lib.Seq.{sets}
 use lib.Dec.{leb}
-use denote.Enum.Declared.{tag_of}
-use types.Run.{OneOf, miss}
 use Rattle.numbers.specs.Numbers.{when}
 use Rattle.rules.specs.Limits.{box_limit}
 use Rattle.rules.specs.Boxes.{look, forest, Forest, end, bad, node}
 use Rattle.rules.specs.Framing.{rule5, framing, on_framing, rows}
 use Rattle.rules.proofs.Forest.{never, FoundBox, forest_nothing, forest_short, forest_small, forest_beyond, forest_box}
-use Rattle.rules.specs.contracts.Look.{the_type}
 use Rattle.rules.specs.declared.Path.{Path}
 use Rattle.rules.specs.declared.Look.{Look}
 use Rattle.rules.specs.declared.Look.TheVariants.{Nothing, Short, Small, Beyond, Good}
@@ -66,17 +63,17 @@ pub known :
 known s at path base d row t u e h = subst (λ (x : Wrote). Writes x s at path base d row t u) e h
 
 module _ (path : Path) (s : List ℕ) (at base d : ℕ) where
-  -- where no box is framed there is nothing to write: the variant is not the fifth
-  pub rows_none : {l : Look} → l ≡ look s at → OneOf (0 ∷ 1 ∷ 2 ∷ 3 ∷ []) (tag_of the_type l) → rows (forest path s at) base d ≡ []
+  -- where no box is framed there is nothing to write
+  pub rows_none : {l : Look} → l ≡ look s at → ((h z k : ℕ) → l ≡ Good h z k → ⊥) → rows (forest path s at) base d ≡ []
   unfolding rows
   rows_none {l} e o = by l (sym e) o
     where
-      by : (l : Look) → look s at ≡ l → OneOf (0 ∷ 1 ∷ 2 ∷ 3 ∷ []) (tag_of the_type l) → rows (forest path s at) base d ≡ []
+      by : (l : Look) → look s at ≡ l → ((h z k : ℕ) → l ≡ Good h z k → ⊥) → rows (forest path s at) base d ≡ []
       by Nothing e o = ap (λ f. rows f base d) (forest_nothing path s at e)
       by Short e o = ap (λ f. rows f base d) (forest_short path s at e)
       by Small e o = ap (λ f. rows f base d) (forest_small path s at e)
       by Beyond e o = ap (λ f. rows f base d) (forest_beyond path s at e)
-      by (Good x z k) e o = absurd (miss (0 ∷ 1 ∷ 2 ∷ 3 ∷ []) 4 tt o)
+      by (Good x z k) e o = absurd (o x z k refl)
 
   -- where the index has room, a framed box's four numbers have it
   pub room :

@@ -5,15 +5,12 @@ use mathlib.Core.Bool.{true}
 use Prim.Native.Nat.{ℕ, ◌+◌, ◌-◌, ◌<◌, ◌≤◌}
 use native.Mathlib.Omega.{arith}
 use lib.ListN.{length, take, drop, length-take, length-drop}
-use denote.Enum.Declared.{tag_of}
-use types.Run.{OneOf, miss}
 use lib.Dec.{leb}
 use borrow.Author.Tests.{le-leb, lt-leb}
 use Rattle.rules.specs.Limits.{box_limit}
 use Rattle.rules.specs.Boxes.{part, look, inside, within, forest, boxes, Forest, end, bad, node}
 use Rattle.rules.specs.Framing.{rule5, framing, on_framing}
 use Rattle.rules.proofs.Forest.{look_nothing, nothing_left, look_found, FoundBox, forest_by, forest_nothing, forest_short, forest_small, forest_beyond, forest_box, boxes_nothing}
-use Rattle.rules.specs.contracts.Look.{the_type}
 use Rattle.rules.specs.declared.Path.{Path}
 use Rattle.rules.specs.declared.Inside.{Inside}
 use Rattle.rules.specs.declared.Inside.TheVariants.{Leaf, Container}
@@ -101,19 +98,19 @@ module _ (path : Path) (s : List ℕ) (at base n : ℕ) where
   unfolding framing
   at_box h z k i b e = ap (λ f. framing f base n) e ∙ below b (base + at) _
 
-  -- what a step says where no box is framed: its variant is not the fifth
+  -- what a step says where no box is framed: no box begins there
   pub reads_broken :
-      (l : Look) (r : Step) → look s at ≡ l → OneOf (0 ∷ 1 ∷ 2 ∷ 3 ∷ []) (tag_of the_type l) → n < box_limit →
+      (l : Look) (r : Step) → look s at ≡ l → ((h z k : ℕ) → l ≡ Good h z k → ⊥) → n < box_limit →
       r ≡ broken_at l (base + at) → Read r s at path base n
   unfolding framing
   reads_broken l r e o h b = subst⁻¹ (λ (x : Step). Read x s at path base n) b (by l e o)
     where
-      by : (l : Look) → look s at ≡ l → OneOf (0 ∷ 1 ∷ 2 ∷ 3 ∷ []) (tag_of the_type l) → Read (broken_at l (base + at)) s at path base n
+      by : (l : Look) → look s at ≡ l → ((h z k : ℕ) → l ≡ Good h z k → ⊥) → Read (broken_at l (base + at)) s at path base n
       by Nothing e o = none e
       by Short e o = at_bad 2 h (forest_short path s at e)
       by Small e o = at_bad 3 h (forest_small path s at e)
       by Beyond e o = at_bad 4 h (forest_beyond path s at e)
-      by (Good x z k) e o = absurd (miss (0 ∷ 1 ∷ 2 ∷ 3 ∷ []) 4 tt o)
+      by (Good x z k) e o = absurd (o x z k refl)
 
   module _ {l : Look} {h z k : ℕ} {i : Inside} (b : n < box_limit) (e : l ≡ look s at) (g : l ≡ Good h z k) (w : i ≡ inside path k) where
     -- past a leaf

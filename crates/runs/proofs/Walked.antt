@@ -1,7 +1,5 @@
 -- Laws of the walk over the runs: one run more, and the runs in a front of the `moof` box by box.
 use Rattle.std.proofs.Common.{◌≡◌, ℕ, ◌+◌, ◌<◌, ◌≤◌, Bool, true, false, eqb, leb, List, [], ◌∷◌, length, sym, refl, ap, ◌∙◌, subst, mul-le-mul_left, mul-zero, mul-suc, arith, eq-eqb, ne_eqb, eqb-true, leb-false, leb-true}
-use types.Run.{OneOf}
-use denote.Enum.Declared.{tag_of}
 use borrow.Author.Tests.{eqb-false}
 use Rattle.numbers.specs.Numbers.{when}
 use Rattle.rules.specs.Kinds.{trun}
@@ -15,7 +13,6 @@ use Rattle.rules.specs.declared.Look.TheVariants.{Good}
 use Rattle.rules.specs.declared.Rule.{Rule}
 use Rattle.rules.specs.declared.Rule.TheVariants.{Holds, Breaks}
 use Rattle.rules.specs.declared.Defaults.{Defaults}
-use Rattle.rules.specs.contracts.Look.{the_type}
 use Rattle.rules.proofs.Forest.{places_hit, places_miss, places_end}
 use Rattle.rules.proofs.Then.{then_holds, then_breaks, then_assoc, then_first}
 use Rattle.rules.proofs.Untracked.{then_is, must_is}
@@ -126,7 +123,7 @@ module _ (m : List ℕ) (want : Bool) (d : Defaults) (from : ℕ) (all : List �
 
 -- the runs from a place on, by what stands there
 module _ (s : List ℕ) (at : ℕ) {l : Look} (e : l ≡ look s at) where
-  pub runs_over : OneOf (0 ∷ 1 ∷ 2 ∷ 3 ∷ []) (tag_of the_type l) → runs_at s at ≡ []
+  pub runs_over : ((h z k : ℕ) → l ≡ Good h z k → ⊥) → runs_at s at ≡ []
   unfolding runs_at
   runs_over o = places_end s at trun (over s at l e o)
 

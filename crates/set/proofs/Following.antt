@@ -7,8 +7,6 @@ use native.Mathlib.Nat.{add-sub_cancel_left}
 use native.Mathlib.Omega.{arith}
 use lib.ListN.{length, take, drop}
 use lib.Dec.{ltb}
-use types.Run.{OneOf, miss}
-use denote.Enum.Declared.{tag_of}
 use Rattle.numbers.specs.Numbers.{when}
 use Rattle.rules.specs.Limits.{record_limit}
 use Rattle.rules.specs.Boxes.{part}
@@ -17,7 +15,6 @@ use Rattle.rules.specs.Bundle.{record_at, none, wrong, tracks_of}
 use Rattle.rules.specs.Track.{ruling}
 use Rattle.rules.specs.Set.{rulings, agrees, agree}
 use Rattle.rules.proofs.Then.{then_holds, then_breaks, then_assoc, then_last}
-use Rattle.rules.specs.contracts.Mark.{the_type}
 use Rattle.rules.specs.declared.Mark.{Mark}
 use Rattle.rules.specs.declared.Mark.TheVariants.{Nothing, Wrong, Track}
 use Rattle.rules.specs.declared.Rule.{Rule}
@@ -33,11 +30,11 @@ module _ (b : List ℕ) (at k : ℕ) where
     rest_track e f = ap (tracks_of b) (here b at k h (sym f ∙ e))
 
     -- no track
-    pub rest_none : (r : Mark) → r ≡ record_at b at → OneOf (0 ∷ 1 ∷ []) (tag_of the_type r) → rest_of b k at ≡ []
+    pub rest_none : (r : Mark) → r ≡ record_at b at → ((n : ℕ) → r ≡ Track n → ⊥) → rest_of b k at ≡ []
     unfolding tracks_of
     rest_none Nothing e o = ap (tracks_of b) (here b at k h e)
     rest_none Wrong e o = ap (tracks_of b) (here b at k h e)
-    rest_none (Track n) e o = absurd (miss (0 ∷ 1 ∷ []) 2 tt o)
+    rest_none (Track n) e o = absurd (o n refl)
 
   -- no more tracks may come
   pub rest_full : record_limit ≤ k → rest_of b k at ≡ []

@@ -4,16 +4,13 @@ use mathlib.Core.List.{List, [], ◌∷◌}
 use Prim.Native.Nat.{ℕ, ◌+◌, ◌-◌, ◌≤◌, ◌<◌}
 use native.Mathlib.Omega.{arith}
 use lib.ListN.{length, take, drop}
-use types.Run.{OneOf}
 use borrow.Author.Tests.{le-leb, lt-leb}
-use denote.Enum.Declared.{tag_of}
 use Rattle.rules.specs.Limits.{byte_limit}
 use Rattle.rules.specs.Rules.{◌then◌, of_track}
 use Rattle.rules.specs.Bundle.{record_at, rule24, tracks, records}
 use Rattle.rules.specs.Track.{rule1, ruling, fragment_count, timescale, boundaries, room_for, refused}
 use Rattle.rules.specs.Set.{rulings, agree, set_ruling, bundle_ruling, set_outcome}
 use Rattle.rules.proofs.Then.{then_holds, then_breaks, then_assoc, must_true, must_false}
-use Rattle.rules.specs.contracts.Mark.{the_type}
 use Rattle.rules.specs.declared.Mark.{Mark}
 use Rattle.rules.specs.declared.Mark.TheVariants.{Track}
 use Rattle.rules.specs.declared.Rule.{Rule}
@@ -27,7 +24,7 @@ unfolding tracks records
 tracks_are b = refl
 
 -- a bundle that has a track begins with a record
-pub has_first : (b : List ℕ) (r : Mark) → r ≡ record_at b 0 → OneOf (0 ∷ 1 ∷ []) (tag_of the_type r) → 1 ≤ length (tracks b) → ⊥
+pub has_first : (b : List ℕ) (r : Mark) → r ≡ record_at b 0 → ((n : ℕ) → r ≡ Track n → ⊥) → 1 ≤ length (tracks b) → ⊥
 has_first b r e o n = omega (arith, n, ap length (tracks_are b ∙ rest_none b 0 0 (omega arith) r e o))
 
 -- the first track, and where the others begin

@@ -4,6 +4,4 @@ use Rattle.fields.proofs.flags.Goals as goal
 
 pub returns : goal.returns
 unfolding box_flags
-returns c =
-    let met = rw c.requires.0.head c.near3.ensures in
-    record { value = met.0; upper_bound = met.1 }
+returns c = record { value = rw c.requires.0.head c.near3.ensures.value; upper_bound = c.near3.ensures.upper_bound }

@@ -1,9 +1,9 @@
 -- `fields::versioned` meets its contract. Assumes nothing.
 use mathlib.Core.Path.{◌≡◌, ◌∙◌}
-use mathlib.Core.Logic.{⊎_elim}
 use native.Mathlib.Omega.{arith}
 use Rattle.fields.proofs.Forms.{version_is, is_zero, is_one, is_neither}
 use Rattle.fields.proofs.versioned.Goals as goal
+use Rattle.fields.proofs.versioned.Goals.{then-payload-zero+else-s-body-eq0, else-payload-zero}
 
 pub returns-then-s-body-eq0 : goal.returns-then-s-body-eq0
 returns-then-s-body-eq0 c = let p = c.requires in
@@ -18,11 +18,11 @@ returns-then-s-body-eq1 c = let p = c.requires in
 pub returns-else-s-body-eq1 : goal.returns-else-s-body-eq1
 returns-else-s-body-eq1 c = let p = c.requires in
     is_neither _ _ p.0 _ _ (omega (arith, p.1)) (omega (arith, p.2))
-    (λ e z. ⊎_elim (λ x. x.2.left z) (λ x. x.left e) c.if-payload-zero.branch)
+    (λ e z. elim c.if-payload-zero.branch [ then-payload-zero+else-s-body-eq0 w ↦ w.if-s-body-eq0.false z | else-payload-zero w ↦ w.if-payload-zero.false e ])
     (λ e z. c.if-s-body-eq1.false z)
 
 pub returns-else-payload-one : goal.returns-else-payload-one
 returns-else-payload-one c = let p = c.requires in
     is_neither _ _ p.0 _ _ (omega (arith, p.1)) (omega (arith, p.2))
-    (λ e z. ⊎_elim (λ x. x.2.left z) (λ x. x.left e) c.if-payload-zero.branch)
+    (λ e z. elim c.if-payload-zero.branch [ then-payload-zero+else-s-body-eq0 w ↦ w.if-s-body-eq0.false z | else-payload-zero w ↦ w.if-payload-zero.false e ])
     (λ e z. c.if-payload-one.false e)

@@ -12,7 +12,7 @@ returns-then-n-ge-BOX_LIMIT c = at_limit _ _ _ _ _ c.if-s-at.false c.if-n-ge-BOX
 
 pub returns-in_default : goal.returns-in_default
 returns-in_default c = let a = c.args in
-    reads_broken a.path a.s.now a.at a.base a.n c.look-l.result c.broken_step.result (sym c.look-l.ensures.value) c.in-Good.keys2 c.if-n-ge-BOX_LIMIT.false
+    reads_broken a.path a.s.now a.at a.base a.n c.look-l.result c.broken_step.result (sym c.look-l.ensures.value) c.in_default.not-Good c.if-n-ge-BOX_LIMIT.false
     c.broken_step.ensures
 
 pub overflow_add-next : goal.overflow_add-next

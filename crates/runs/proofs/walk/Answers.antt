@@ -13,7 +13,7 @@ loop-head-init c = let a = c.args in (walked_none a.m.now a.want a.d a.from (run
 pub returns-in_default : goal.returns-in_default
 returns-in_default c = let l = c.loop-head in
     let a = c.args in
-    walked_same a.m.now a.want a.d a.from _ _ l.t l.invariant.0 _ (runs_over a.s.now l.at c.look-l.ensures.value c.in-Good.keys2)
+    walked_same a.m.now a.want a.d a.from _ _ l.t l.invariant.0 _ (runs_over a.s.now l.at c.look-l.ensures.value c.in_default.not-Good)
 
 -- the box that stands at the place
 here : (k : goal.In-Good invariant-loop decreases-loop) → Stands k.args.m.now (record { at = k.loop.at; head = k.l.given.0.0; size = k.l.given.0.1.0 })

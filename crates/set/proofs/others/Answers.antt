@@ -9,7 +9,7 @@ pub loop-k-init : goal.loop-k-init
 loop-k-init c = members_begins _ _ _ c.requires.from_in_bounds
 
 pub returns-in_default : goal.returns-in_default
-returns-in_default c = members_ends _ _ c.loop-k.invariant (rest_none _ _ _ c.loop-k-test.true c.record_at-mark.result c.record_at-mark.ensures.value c.in-Track.keys2)
+returns-in_default c = members_ends _ _ c.loop-k.invariant (rest_none _ _ _ c.loop-k-test.true c.record_at-mark.result c.record_at-mark.ensures.value c.in_default.not-Track)
 
 pub returns-in-Refused : goal.returns-in-Refused
 returns-in-Refused c =

@@ -14,7 +14,7 @@ slice_bounds-look-end c = sym (length-take-le _ _ c.requires.fits)
 pub returns-in_default : goal.returns-in_default
 returns-in_default c =
     let l = c.loop-head in
-    child_none c.args.m.now c.args.x c.requires c.args.w l.at l.invariant (over _ _ _ c.look-l.ensures.value c.in-Good.keys2)
+    child_none c.args.m.now c.args.x c.requires c.args.w l.at l.invariant (over _ _ _ c.look-l.ensures.value c.in_default.not-Good)
 
 pub returns-then-kind-w : goal.returns-then-kind-w
 returns-then-kind-w c =

@@ -13,7 +13,7 @@ pub returns-in_default : goal.returns-in_default
 unfolding has
 returns-in_default c = let l = c.loop-head in
     let a = c.args in
-    sym (ap (λ (f : ℕ). is_sync f) (first_none a.m.now a.d _ _ l.invariant (runs_over a.s.now l.at c.look-l.ensures.value c.in-Good.keys2)))
+    sym (ap (λ (f : ℕ). is_sync f) (first_none a.m.now a.d _ _ l.invariant (runs_over a.s.now l.at c.look-l.ensures.value c.in_default.not-Good)))
 
 -- the box that stands at the place
 here : (k : goal.In-Good invariant-loop decreases-loop) → Stands k.args.m.now (record { at = k.loop.at; head = k.l.given.0.0; size = k.l.given.0.1.0 })

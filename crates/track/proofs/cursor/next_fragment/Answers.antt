@@ -13,7 +13,7 @@ pub loop-head-init : goal.loop-head-init
 loop-head-init c = skipped_none _ _ _
 
 pub returns-in_default : goal.returns-in_default
-returns-in_default c = skipped_all c.loop-head.invariant (over _ _ _ c.look-l.ensures.value c.in-Good.keys2)
+returns-in_default c = skipped_all c.loop-head.invariant (over _ _ _ c.look-l.ensures.value c.in_default.not-Good)
 
 pub overflow_add-next : goal.overflow_add-next
 overflow_add-next c = omega (arith, found _ _ c.look-l.ensures.value c.in-Good.is)
