@@ -14,7 +14,7 @@ pub returns-then-has : goal.returns-then-has
 unfolding placed offset_is
 returns-then-has c =
     rw (← c.requires.1, ← c.has.ensures, c.if-has.true, ← c.word.ensures, ← c.signed-offset.ensures)
-    (rw (to_z-of_z w32 c.signed-offset.result (sfits_of c.signed-offset.type-inv)) at c.is_place.ensures)
+    (rw (to_z-of_z w32 c.signed-offset.result (sfits_of c.signed-offset.type_inv)) at c.is_place.ensures)
 
 pub returns : goal.returns
 unfolding placed

@@ -55,5 +55,5 @@ returns c =
     let l = c.loop-i in
     added_all a.m.now a.from a.step a.n l.all l.odd c.wrapping_sub_u64-even.result c.from_columns.result c.from_columns-2.result
     (bytes c) c.requires.0 (rw (le_antisymm c.loop-i-test.false l.invariant.0) l.invariant.2)
-    c.wrapping_sub_u64-even.ensures (omega (arith, c.wrapping_sub_u64-even.type-inv)) c.from_columns.ensures c.from_columns-2.ensures in
+    c.wrapping_sub_u64-even.ensures (omega (arith, c.wrapping_sub_u64-even.type_inv)) c.from_columns.ensures c.from_columns-2.ensures in
     record { summed = met.0; summed_2 = met.1 }

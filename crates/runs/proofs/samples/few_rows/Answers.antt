@@ -36,8 +36,8 @@ loop-i-preserved c = let a = c.args in
     let x = c.near4 in (
       omega arith,
       step_on_lem a.from a.step l.i l.p l.invariant.1,
-      summed_at a.m.now a.from a.step l.i l.ticks l.p x.result l.invariant.2 l.invariant.1 x.ensures (omega (arith, x.type-inv)),
-      summed_at a.m.now (a.from + 4) a.step l.i l.bytes (l.p + 4) c.near4-in-loop-i.result l.invariant.3 (omega (arith, l.invariant.1)) c.near4-in-loop-i.ensures (omega (arith, c.near4-in-loop-i.type-inv)),
+      summed_at a.m.now a.from a.step l.i l.ticks l.p x.result l.invariant.2 l.invariant.1 x.ensures (omega (arith, x.type_inv)),
+      summed_at a.m.now (a.from + 4) a.step l.i l.bytes (l.p + 4) c.near4-in-loop-i.result l.invariant.3 (omega (arith, l.invariant.1)) c.near4-in-loop-i.ensures (omega (arith, c.near4-in-loop-i.type_inv)),
     )
 
 pub returns : goal.returns

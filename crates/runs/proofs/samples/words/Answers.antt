@@ -22,7 +22,7 @@ loop-i-preserved c = let a = c.args in
     let l = c.loop-i in (
       omega arith,
       step_on_lem a.from a.step l.i l.p l.invariant.1,
-      summed_at a.m.now a.from a.step l.i l.sum l.p c.near4.result l.invariant.2 l.invariant.1 c.near4.ensures (omega (arith, c.near4.type-inv)),
+      summed_at a.m.now a.from a.step l.i l.sum l.p c.near4.result l.invariant.2 l.invariant.1 c.near4.ensures (omega (arith, c.near4.type_inv)),
     )
 
 pub returns : goal.returns

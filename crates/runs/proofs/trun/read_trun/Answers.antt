@@ -7,11 +7,11 @@ pub returns-then-r-lt8 : goal.returns-then-r-lt8
 returns-then-r-lt8 c = run_short _ _ c.requires c.if-r-lt8.true
 
 pub overflow_mul-own : goal.overflow_mul-own
-overflow_mul-own c = omega (arith, own_fits c.stride.result c.word-count.result c.stride.ensures.upper_bound (omega (arith, c.word-count.type-inv)))
+overflow_mul-own c = omega (arith, own_fits c.stride.result c.word-count.result c.stride.ensures.upper_bound (omega (arith, c.word-count.type_inv)))
 
 pub overflow_add-size-2 : goal.overflow_add-size-2
 overflow_add-size-2 c =
-    omega (arith, c.run_head.ensures.upper_bound, own_fits c.stride.result c.word-count.result c.stride.ensures.upper_bound (omega (arith, c.word-count.type-inv)))
+    omega (arith, c.run_head.ensures.upper_bound, own_fits c.stride.result c.word-count.result c.stride.ensures.upper_bound (omega (arith, c.word-count.type_inv)))
 
 pub versioned-version-requires : goal.versioned-version-requires
 versioned-version-requires c = let l = c.run_head.ensures.value in
