@@ -17,5 +17,8 @@ shape_of-out c = search rules
 
 pub returns : goal.returns
 returns c =
-    let a = c.args in record { put = then c.put_text-next.ensures c.put_number.ensures; upper_bound = omega
-          (arith, c.put_number.ensures.next, c.put_text-next.ensures.next, twenty a.n c.ranges.n.fits) }
+    let a = c.args in record {
+      put = then c.put_text-next.ensures c.put_number.ensures;
+      upper_bound = omega
+          (arith, c.put_number.ensures.next, c.put_text-next.ensures.next, twenty a.n c.ranges.n.fits);
+    }

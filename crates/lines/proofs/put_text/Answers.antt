@@ -1,8 +1,7 @@
 -- `lines::put_text` meets its contract. The invariant: the bytes before i are put. Assumes nothing.
-use Prim.Native.Nat.{◌-◌, ◌≤◌}
-use mathlib.Core.Path.{◌≡◌, refl}
+use mathlib.Core.Path.{refl}
 use native.Mathlib.Omega.{arith}
-use lib.ListN.{length, take, length-set}
+use lib.ListN.{length-set}
 use Rattle.lines.proofs.Puts.{byte_more, whole_text}
 use Rattle.lines.proofs.put_text.Goals as goal
 

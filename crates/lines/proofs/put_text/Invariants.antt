@@ -1,7 +1,7 @@
 -- `lines::put_text` meets its contract. The invariant: the bytes before i are put. Assumes nothing.
 use Prim.Native.Nat.{◌-◌, ◌≤◌}
-use mathlib.Core.Path.{◌≡◌, refl}
-use lib.ListN.{length, take, length-set}
+use mathlib.Core.Path.{◌≡◌}
+use lib.ListN.{length, take}
 use lib.Seq.{sets}
 use Rattle.lines.proofs.put_text.Given as goal
 

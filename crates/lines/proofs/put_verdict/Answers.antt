@@ -25,9 +25,12 @@ shape_of-out c = search rules
 
 pub returns : goal.returns
 unfolding spaced
-returns c = record { put = then
-          (then
-          (then (then c.put_field-a.ensures.put c.put_field-b.ensures.put) c.put_field-c.ensures.put)
-          c.put_field-d.ensures.put)
-          c.put_field.ensures.put; upper_bound = omega
-          (arith, c.put_field-a.ensures.upper_bound, c.put_field-b.ensures.upper_bound, c.put_field-c.ensures.upper_bound, c.put_field-d.ensures.upper_bound, c.put_field.ensures.upper_bound) }
+returns c = record {
+  put = then
+      (then
+      (then (then c.put_field-a.ensures.put c.put_field-b.ensures.put) c.put_field-c.ensures.put)
+      c.put_field-d.ensures.put)
+      c.put_field.ensures.put;
+  upper_bound = omega
+      (arith, c.put_field-a.ensures.upper_bound, c.put_field-b.ensures.upper_bound, c.put_field-c.ensures.upper_bound, c.put_field-d.ensures.upper_bound, c.put_field.ensures.upper_bound);
+}

@@ -1,9 +1,9 @@
 -- `lines::tick_lines` meets its contract. The invariant: the numbers before k are put, 21 bytes a line at most. Assumes nothing.
-use Prim.Native.Nat.{◌+◌, ◌*◌, ◌-◌, ◌≤◌}
-use mathlib.Core.Path.{◌≡◌, refl}
+use Prim.Native.Nat.{◌+◌}
+use mathlib.Core.Path.{refl}
 use native.Mathlib.Omega.{arith}
 use borrow.Author.Rules.{rules}
-use Rattle.lines.proofs.ticks_played.{TicksPut, none, next, up_to, every_tick}
+use Rattle.lines.proofs.Ticks.{none, next, up_to, every_tick}
 use Rattle.lines.proofs.tick_lines.Goals as goal
 
 pub loop-k-init : goal.loop-k-init
@@ -41,8 +41,8 @@ loop-k-preserved c =
       omega arith,
       omega arith,
       search rules,
-      omega (arith, l.ensures.1),
-      next a.t.now v.k c.loop-k-test.true v.invariant.4 l.ensures.0,
+      omega (arith, l.ensures.upper_bound),
+      next a.t.now v.k c.loop-k-test.true v.invariant.4 l.ensures.put,
     )
 
 pub shape_of-out : goal.shape_of-out

@@ -1,8 +1,8 @@
 -- `lines::tick_lines` meets its contract. The invariant: the numbers before k are put, 21 bytes a line at most. Assumes nothing.
 use Prim.Native.Nat.{◌+◌, ◌*◌, ◌-◌, ◌≤◌}
-use mathlib.Core.Path.{◌≡◌, refl}
+use mathlib.Core.Path.{◌≡◌}
 use lib.ListN.{length}
-use Rattle.lines.proofs.ticks_played.{TicksPut, none, next, up_to, every_tick}
+use Rattle.lines.proofs.Ticks.{TicksPut}
 use Rattle.lines.proofs.tick_lines.Given as goal
 
 abbrev pub invariant-loop-k : goal.invariant-loop-k

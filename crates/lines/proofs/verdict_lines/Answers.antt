@@ -19,7 +19,7 @@ pub returns-then-v-eq0 : goal.returns-then-v-eq0
 unfolding verdict_lines
 returns-then-v-eq0 c = let l = c.tick_lines in
     let f = c.accepted_line-n in rw (eq-eqb c.args.v.number 0 c.if-v-eq0.true)
-    (whole_line (then f.ensures.0 l.ensures.0) (omega (arith, f.ensures.1, l.ensures.1)))
+    (whole_line (then f.ensures.put l.ensures.put) (omega (arith, f.ensures.upper_bound, l.ensures.upper_bound)))
 
 pub refused_line-requires : goal.refused_line-requires
 refused_line-requires c = search rules
@@ -30,4 +30,4 @@ shape_of-out c = search rules
 pub returns : goal.returns
 unfolding verdict_lines
 returns c = let f = c.refused_line in rw (ne_eqb c.args.v.number 0 c.if-v-eq0.false)
-    (whole_line f.ensures.0 (omega (arith, f.ensures.1)))
+    (whole_line f.ensures.put (omega (arith, f.ensures.upper_bound)))
