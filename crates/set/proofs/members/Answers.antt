@@ -6,7 +6,7 @@ use Rattle.set.proofs.Outcomes.{has_first, first_is, first_breaks, others_break,
 use Rattle.set.proofs.members.Goals as goal
 
 pub returns-in_default : goal.returns-in_default
-returns-in_default c = let r = c.record_at-mark in absurd (has_first c.args.b.now r.result r.ensures.0 c.in_default.not-Track c.requires.2)
+returns-in_default c = let r = c.record_at-mark in absurd (has_first c.args.b.now r.result r.ensures.value c.in_default.not-Track c.requires.2)
 
 pub others-requires : goal.others-requires
 others-requires c =
