@@ -1,8 +1,7 @@
 -- `set::others` meets its contract. Assumes nothing.
-use Prim.Native.Nat.{◌-◌}
 use mathlib.Core.Path.{sym, ◌∙◌}
 use Rattle.track.proofs.Table.{accepted_known, refused_broken}
-use Rattle.set.proofs.Following.{MembersGoing, members_begins, members_ends, members_breaks, members_on, rest_none, rest_full, rest_part}
+use Rattle.set.proofs.Following.{members_begins, members_ends, members_breaks, members_on, rest_none, rest_full, rest_part}
 use Rattle.set.proofs.others.Goals as goal
 
 pub loop-k-init : goal.loop-k-init

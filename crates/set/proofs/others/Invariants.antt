@@ -1,7 +1,7 @@
 -- `set::others` meets its contract. Assumes nothing.
 use Prim.Native.Nat.{◌-◌}
 use Rattle.rules.specs.Limits.{record_limit}
-use Rattle.set.proofs.Following.{MembersGoing, members_begins, members_ends, members_breaks, members_on, rest_none, rest_full, rest_part}
+use Rattle.set.proofs.Following.{MembersGoing}
 use Rattle.set.proofs.others.Given as goal
 
 abbrev pub invariant-loop-k : goal.invariant-loop-k

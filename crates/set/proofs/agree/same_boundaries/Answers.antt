@@ -1,10 +1,9 @@
 -- `set::agree::same_boundaries` meets its contract. Assumes nothing.
-use Prim.Native.Nat.{◌-◌}
 use mathlib.Core.Path.{sym, ap, ◌∙◌}
 use mathlib.Core.Bool.{Bool}
 use native.Mathlib.Omega.{arith}
 use Rattle.rules.specs.Rules.{must}
-use Rattle.set.proofs.Beside.{BesideGoing, beside_begins, beside_ends, beside_short, beside_on, beside_differs}
+use Rattle.set.proofs.Beside.{beside_begins, beside_ends, beside_short, beside_on, beside_differs}
 use Rattle.set.proofs.agree.same_boundaries.Goals as goal
 
 pub loop-next0-init : goal.loop-next0-init

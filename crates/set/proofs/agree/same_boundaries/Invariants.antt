@@ -1,7 +1,7 @@
 -- `set::agree::same_boundaries` meets its contract. Assumes nothing.
 use Prim.Native.Nat.{◌-◌}
 use lib.ListN.{length}
-use Rattle.set.proofs.Beside.{BesideGoing, beside_begins, beside_ends, beside_short, beside_on, beside_differs}
+use Rattle.set.proofs.Beside.{BesideGoing}
 use Rattle.set.proofs.agree.same_boundaries.Given as goal
 
 abbrev pub invariant-loop-next0 : goal.invariant-loop-next0
