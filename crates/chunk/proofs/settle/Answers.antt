@@ -4,10 +4,9 @@ use mathlib.Core.List.{List, []}
 use mathlib.Core.Bool.{Bool}
 use Prim.Native.Nat.{ℕ, ◌+◌}
 use native.Mathlib.Omega.{arith}
-use lib.ListN.{length, take}
+use lib.ListN.{length}
 use lib.Seq.{length-take-le}
-use borrow.Author.Rules.{rules}
-use Rattle.rules.specs.Chunk.{runs_in, rule15runs}
+use Rattle.rules.specs.Chunk.{rule15runs}
 use Rattle.rules.specs.declared.Defaults.{Defaults}
 use Rattle.runs.specs.declared.Runs.{Runs}
 use Rattle.runs.specs.declared.Runs.TheVariants.{Of}

@@ -1,5 +1,4 @@
 -- `track::judge` meets its contract. Assumes nothing.
-use Prim.Native.Nat.{◌-◌}
 use mathlib.Core.Path.{refl, ap, subst}
 use mathlib.Core.Bool.{not}
 use native.Mathlib.Omega.{arith}

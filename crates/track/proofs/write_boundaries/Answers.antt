@@ -1,8 +1,7 @@
 -- `track::write_boundaries` meets its contract. Assumes nothing.
-use Prim.Native.Nat.{◌-◌}
 use mathlib.Core.Path.{◌∙◌}
 use native.Mathlib.Omega.{arith}
-use Rattle.track.proofs.Table.{Writing, writing_begins, end_room, writing_ends, start_room, writing_on}
+use Rattle.track.proofs.Table.{writing_begins, end_room, writing_ends, start_room, writing_on}
 use Rattle.track.proofs.write_boundaries.Goals as goal
 
 pub loop-next-init : goal.loop-next-init

@@ -14,7 +14,7 @@ unfolding tfdt_in
 returns-then-byte-eq1 c =
     let st = c.first_child-tfdt.ensures.stands in
     let place : c.first_child-tfdt.result.at ≡ tfdt_in c.args.m.now =
-      c.first_child-tfdt.ensures.place ∙ ap (λ (t : ℕ). child c.args.m.now t tfdt) c.requires.0.place in
+    c.first_child-tfdt.ensures.place ∙ ap (λ (t : ℕ). child c.args.m.now t tfdt) c.requires.0.place in
     start_one _ c.first_child-tfdt.result place _ (version_is _ _ st ∙ sym c.byte.ensures ∙ c.if-byte-eq1.true) (rw st.head c.be8.ensures)
 
 pub returns-else-byte-eq1 : goal.returns-else-byte-eq1
@@ -22,5 +22,5 @@ unfolding field tfdt_in
 returns-else-byte-eq1 c =
     let st = c.first_child-tfdt.ensures.stands in
     let place : c.first_child-tfdt.result.at ≡ tfdt_in c.args.m.now =
-      c.first_child-tfdt.ensures.place ∙ ap (λ (t : ℕ). child c.args.m.now t tfdt) c.requires.0.place in
+    c.first_child-tfdt.ensures.place ∙ ap (λ (t : ℕ). child c.args.m.now t tfdt) c.requires.0.place in
     start_other _ c.first_child-tfdt.result place _ (λ o. c.if-byte-eq1.false (c.byte.ensures ∙ sym (version_is _ _ st) ∙ o)) (rw st.head c.be4.ensures)

@@ -10,9 +10,9 @@ last_tick-last-requires c = let p = c.requires in ticks_low _ _ _ _ _ _ _ p.moof
 
 pub returns-in_default : goal.returns-in_default
 returns-in_default c = let p = c.requires in (
-      then_breaks _ (lasts_is _ _ _ _ _ _ _ p.moof_in.0 p.moof_in.1 p.moof_in.2 p.spans_all ∙ must_false 20 _ (rw c.in_default.is at c.last_tick-last.ensures)),
-      omega (arith, p.moof_in.0.run.stands.fits),
-    )
+  then_breaks _ (lasts_is _ _ _ _ _ _ _ p.moof_in.0 p.moof_in.1 p.moof_in.2 p.spans_all ∙ must_false 20 _ (rw c.in_default.is at c.last_tick-last.ensures)),
+  omega (arith, p.moof_in.0.run.stands.fits),
+)
 
 pub returns-in-Breaks : goal.returns-in-Breaks
 returns-in-Breaks c =
