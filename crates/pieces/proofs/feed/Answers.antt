@@ -1,7 +1,6 @@
 -- `pieces::feed` meets its contract. Assumes nothing.
 use mathlib.Core.Path.{sym, ap, ◌∙◌}
 use borrow.Author.Rules.{rules}
-use borrow.Author.Tests.{not-true, not-false}
 use Rattle.pieces.proofs.Piecemeal.{unsound_feeds, fed_feeds}
 use Rattle.pieces.proofs.feed.Goals as goal
 
@@ -10,7 +9,7 @@ returns-then-quick c = rw c.if-quick.true at c.quick.ensures
 
 pub returns-then-not-is_sound : goal.returns-then-not-is_sound
 returns-then-not-is_sound c = let q = rw c.if-quick.false at c.quick.ensures in
-    let s = sym c.is_sound.ensures ∙ not-true _ c.if-not-is_sound.true in
+    let s = sym c.is_sound.ensures ∙ c.if-not-is_sound.true in
     let a = c.args in
     rw (q.0, q.1, q.2) (unsound_feeds a.numbers.now a.head.now a.kept.now a.piece.now (rw (c.decode-st.ensures, q.0, q.1, q.2) at s))
 
@@ -19,11 +18,16 @@ fed-requires c = let q = rw c.if-quick.false at c.quick.ensures in
     record {
       bytes = search rules;
       room = search rules;
-      sound = sym c.is_sound.ensures ∙ not-false _ c.if-not-is_sound.false;
+      sound = sym c.is_sound.ensures ∙ c.if-not-is_sound.false;
     }
 
 pub returns : goal.returns
 returns c = let q = rw c.if-quick.false at c.quick.ensures in
     fed_feeds _ c.encode.result (sym (rw q.0 at c.decode-st.ensures))
-    (rw (q.1, q.2) at (fed-requires c c.fed.lifetimes)) c.encode.ensures
+    record {
+      bytes = search rules;
+      room = search rules;
+      sound = rw (q.1, q.2) at (sym c.is_sound.ensures ∙ c.if-not-is_sound.false);
+    }
+    c.encode.ensures
     (rw (q.1, q.2) at c.fed.ensures)
