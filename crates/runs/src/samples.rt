@@ -68,8 +68,8 @@ fn from_columns(even: u64, odd: u64) -> u64
 // The two sums of the rows of a block.
 fn block(m: &[u8], from: usize, step: usize, n: usize) -> Sums
     requires { (n ≤ 256) × (8 ≤ step) × (from + step * n ≤ length m.now) }
-    ensures summed { Summed (every_four m.now from step) n result.ticks }
-    ensures summed_2 { Summed (every_four m.now (from + 4) step) n result.bytes }
+    ensures ticks { Summed (every_four m.now from step) n result.ticks }
+    ensures bytes { Summed (every_four m.now (from + 4) step) n result.bytes }
 {
     let mut all: u64 = 0; // the rows' numbers in all, in 64 bits
     let mut odd: u64 = 0; // their second, fourth, sixth and eighth bytes in all, in 16 bits each
@@ -93,8 +93,8 @@ fn block(m: &[u8], from: usize, step: usize, n: usize) -> Sums
 // The two sums of n pairs of numbers, number by number.
 fn few_rows(m: &[u8], from: usize, step: usize, n: usize) -> Sums
     requires { (n ≤ sample_limit) × (8 ≤ step) × (from + step * n ≤ length m.now) }
-    ensures summed { Summed (every_four m.now from step) n result.ticks }
-    ensures summed_2 { Summed (every_four m.now (from + 4) step) n result.bytes }
+    ensures ticks { Summed (every_four m.now from step) n result.ticks }
+    ensures bytes { Summed (every_four m.now (from + 4) step) n result.bytes }
 {
     let mut ticks: u64 = 0;
     let mut bytes: u64 = 0;
@@ -112,8 +112,8 @@ fn few_rows(m: &[u8], from: usize, step: usize, n: usize) -> Sums
 // The two sums of a block, with the steps that a run can have written out: a loop with such a step takes several rows at once.
 fn in_block(m: &[u8], from: usize, step: usize, n: usize) -> Sums
     requires { (n ≤ 256) × (8 ≤ step) × (from + step * n ≤ length m.now) }
-    ensures summed { Summed (every_four m.now from step) n result.ticks }
-    ensures summed_2 { Summed (every_four m.now (from + 4) step) n result.bytes }
+    ensures ticks { Summed (every_four m.now from step) n result.ticks }
+    ensures bytes { Summed (every_four m.now (from + 4) step) n result.bytes }
 {
     match step {
         8 => block(m, from, 8, n),
@@ -126,8 +126,8 @@ fn in_block(m: &[u8], from: usize, step: usize, n: usize) -> Sums
 // The two sums of n pairs of numbers, block by block.
 fn many_rows(m: &[u8], from: usize, step: usize, n: usize) -> Sums
     requires { (n ≤ sample_limit) × (8 ≤ step) × (from + step * n ≤ length m.now) }
-    ensures summed { Summed (every_four m.now from step) n result.ticks }
-    ensures summed_2 { Summed (every_four m.now (from + 4) step) n result.bytes }
+    ensures ticks { Summed (every_four m.now from step) n result.ticks }
+    ensures bytes { Summed (every_four m.now (from + 4) step) n result.bytes }
 {
     let mut ticks: u64 = 0;
     let mut bytes: u64 = 0;
@@ -166,8 +166,8 @@ fn words(m: &[u8], from: usize, step: usize, n: usize) -> u64
 // The two sums of n pairs of numbers, a step apart from a place, all inside the slice.
 fn pairs_inside(m: &[u8], from: usize, step: usize, n: usize) -> Sums
     requires { (n ≤ sample_limit) × (8 ≤ step) × (from + step * n ≤ length m.now) }
-    ensures summed { Summed (every_four m.now from step) n result.ticks }
-    ensures summed_2 { Summed (every_four m.now (from + 4) step) n result.bytes }
+    ensures ticks { Summed (every_four m.now from step) n result.ticks }
+    ensures bytes { Summed (every_four m.now (from + 4) step) n result.bytes }
 {
     if n < 8 {
         return few_rows(m, from, step, n);
@@ -206,8 +206,8 @@ fn times(n: usize, x: u32) -> u64
 // The durations and the sizes of a run's samples.
 pub fn sums_of(m: &[u8], r: Spot, flags: u32, count: u32, d: Defaults) -> Sums
     requires { FilledRun m.now r flags count × (count ≤ sample_limit) }
-    ensures summed { Summed (duration_of m.now d r.at) count result.ticks }
-    ensures summed_2 { Summed (bytes_of m.now d r.at) count result.bytes }
+    ensures ticks { Summed (duration_of m.now d r.at) count result.ticks }
+    ensures bytes { Summed (bytes_of m.now d r.at) count result.bytes }
 {
     let from = r.at + r.head + layout::run_head(flags);
     let step = layout::stride(flags);

@@ -5,21 +5,17 @@ use native.Mathlib.Omega.{arith}
 use Rattle.header.proofs.Read.{good_body, bad, plain_fits, defaults_are}
 use Rattle.header.proofs.bodies.read_trex.Goals as goal
 
--- its size
-sized : (c : goal.Then-is_plain) → c.args.b.size + 8 ≡ c.args.b.head + 32
-sized c = plain_fits _ _ c.requires 32 (omega arith) c.is_plain.ensures c.if-is_plain.true
-
 pub word-id-requires : goal.word-id-requires
-word-id-requires c = (c.requires, omega (arith, sized c))
+word-id-requires c = (c.requires, omega (arith, plain_fits _ _ c.requires 32 (omega arith) c.is_plain.ensures c.if-is_plain.true))
 
 pub word-requires : goal.word-requires
-word-requires c = (c.requires, omega (arith, sized c))
+word-requires c = (c.requires, omega (arith, plain_fits _ _ c.requires 32 (omega arith) c.is_plain.ensures c.if-is_plain.true))
 
 pub word-requires-then-is_plain : goal.word-requires-then-is_plain
-word-requires-then-is_plain c = (c.requires, omega (arith, sized c))
+word-requires-then-is_plain c = (c.requires, omega (arith, plain_fits _ _ c.requires 32 (omega arith) c.is_plain.ensures c.if-is_plain.true))
 
 pub word-requires-then-is_plain-2 : goal.word-requires-then-is_plain-2
-word-requires-then-is_plain-2 c = (c.requires, omega (arith, sized c))
+word-requires-then-is_plain-2 c = (c.requires, omega (arith, plain_fits _ _ c.requires 32 (omega arith) c.is_plain.ensures c.if-is_plain.true))
 
 pub returns-then-is_plain : goal.returns-then-is_plain
 returns-then-is_plain c = (good_body _ _ _ c.is_plain.ensures c.if-is_plain.true, c.word-id.ensures, defaults_are _ _ c.word.ensures c.word-then-is_plain.ensures c.word-then-is_plain-2.ensures)

@@ -9,33 +9,29 @@ use Rattle.boxes.specs.Stands.{StandsAt}
 use Rattle.header.proofs.Found.{met, judged, judged_join}
 use Rattle.header.proofs.containers.in_minf.Goals as goal
 
--- where `dinf` and `stbl` stand
-dinf : (c : goal.After-count_boxes-k) → StandsAt c.args.m.now (dinf_in c.args.m.now) c.count_boxes-k.result.b.first
-unfolding dinf_in
-dinf c = met c.requires c.count_boxes-k.ensures.b
-
-stbl : (c : goal.After-count_boxes-k) → StandsAt c.args.m.now (stbl_in c.args.m.now) c.count_boxes-k.result.c.first
-unfolding stbl_in
-stbl c = met c.requires c.count_boxes-k.ensures.c
-
 pub count_boxes-k-requires-2 : goal.count_boxes-k-requires-2
-count_boxes-k-requires-2 c = (dinf c).stands
+unfolding dinf_in
+count_boxes-k-requires-2 c = (met c.requires c.count_boxes-k.ensures.b).stands
 
 pub count_boxes-k-requires-3 : goal.count_boxes-k-requires-3
-count_boxes-k-requires-3 c = (stbl c).stands
+unfolding stbl_in
+count_boxes-k-requires-3 c = (met c.requires c.count_boxes-k.ensures.c).stands
 
 pub count_boxes-k-requires-4 : goal.count_boxes-k-requires-4
-count_boxes-k-requires-4 c = (stbl c).stands
+unfolding stbl_in
+count_boxes-k-requires-4 c = (met c.requires c.count_boxes-k.ensures.c).stands
 
 pub returns : goal.returns
+unfolding dinf_in stbl_in
 returns c = let x = c.requires in
-    let y = stbl c in
+    let y : StandsAt c.args.m.now (stbl_in c.args.m.now) c.count_boxes-k.result.c.first = met c.requires c.count_boxes-k.ensures.c in
+    let d : StandsAt c.args.m.now (dinf_in c.args.m.now) c.count_boxes-k.result.b.first = met c.requires c.count_boxes-k.ensures.b in
     let i = c.count_boxes-k.ensures in
     let k = c.count_boxes-k-3.ensures in
     let l = c.count_boxes-k-4.ensures in
     record {
       minf = judged x i refl;
-      dinf = judged (dinf c) c.count_boxes-k-2.ensures (counts_1 _ _ _ _);
+      dinf = judged d c.count_boxes-k-2.ensures (counts_1 _ _ _ _);
       stbl = judged_join _ (One stsd ∷ One stts ∷ One stsc ∷ []) (One stsz ∷ One stco ∷ []) c.first_broken.ensures (judged y k refl) (judged y l (counts_2 _ _ _ _ _));
       media = met x i.a;
       stsd = met y k.a;

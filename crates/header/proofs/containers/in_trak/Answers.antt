@@ -9,24 +9,21 @@ use Rattle.boxes.specs.Stands.{StandsAt}
 use Rattle.header.proofs.Found.{met, judged, judged_if, judged_join}
 use Rattle.header.proofs.containers.in_trak.Goals as goal
 
--- where `mdia` stands
-mdia : (c : goal.After-count_boxes-k) → StandsAt c.args.m.now (mdia_in c.args.m.now) c.count_boxes-k.result.c.first
-unfolding mdia_in
-mdia c = met c.requires c.count_boxes-k.ensures.c
-
 pub count_boxes-k-requires-2 : goal.count_boxes-k-requires-2
-count_boxes-k-requires-2 c = (mdia c).stands
+unfolding mdia_in
+count_boxes-k-requires-2 c = (met c.requires c.count_boxes-k.ensures.c).stands
 
 pub count_boxes-k-requires-3 : goal.count_boxes-k-requires-3
-count_boxes-k-requires-3 c = (mdia c).stands
+unfolding mdia_in
+count_boxes-k-requires-3 c = (met c.requires c.count_boxes-k.ensures.c).stands
 
 pub counts_if-requires : goal.counts_if-requires
 counts_if-requires c = c.count_boxes-k.ensures.b.stands
 
 pub returns : goal.returns
-unfolding minf_in
+unfolding minf_in mdia_in
 returns c = let x = c.requires in
-    let y = mdia c in
+    let y : StandsAt c.args.m.now (mdia_in c.args.m.now) c.count_boxes-k.result.c.first = met c.requires c.count_boxes-k.ensures.c in
     let t = c.count_boxes-k.ensures in
     let k = c.count_boxes-k-2.ensures in
     let l = c.count_boxes-k-3.ensures in

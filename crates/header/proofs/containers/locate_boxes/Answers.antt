@@ -11,18 +11,14 @@ pub in_trak-t-requires : goal.in_trak-t-requires
 unfolding trak_in
 in_trak-t-requires c = met (at_start c.requires) c.count_boxes-k.ensures.b
 
--- where `mvex` stands
-mvex : (c : goal.After-count_boxes-k) → StandsAt c.args.m.now (mvex_in c.args.m.now) c.count_boxes-k.result.c.first
-unfolding mvex_in
-mvex c = met (at_start c.requires) c.count_boxes-k.ensures.c
-
 pub count_boxes-k-requires-2 : goal.count_boxes-k-requires-2
-count_boxes-k-requires-2 c = (mvex c).stands
+unfolding mvex_in
+count_boxes-k-requires-2 c = (met (at_start c.requires) c.count_boxes-k.ensures.c).stands
 
 pub returns : goal.returns
-unfolding rule7
+unfolding rule7 mvex_in
 returns c = let x = at_start c.requires in
-    let y = mvex c in
+    let y : StandsAt c.args.m.now (mvex_in c.args.m.now) c.count_boxes-k.result.c.first = met (at_start c.requires) c.count_boxes-k.ensures.c in
     let o = c.count_boxes-k.ensures in
     let t = c.in_trak-t.ensures in
     let i = c.in_minf-i.ensures in

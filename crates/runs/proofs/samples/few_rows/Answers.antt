@@ -42,4 +42,4 @@ loop-i-preserved c = let a = c.args in
 
 pub returns : goal.returns
 returns c = let a = c.args in
-    let l = c.loop-i in record { summed = summed_end (every_four a.m.now a.from a.step) l.i a.n l.ticks l.invariant.2 l.invariant.0 c.loop-i-test.false; summed_2 = summed_end (every_four a.m.now (a.from + 4) a.step) l.i a.n l.bytes l.invariant.3 l.invariant.0 c.loop-i-test.false }
+    let l = c.loop-i in record { ticks = summed_end (every_four a.m.now a.from a.step) l.i a.n l.ticks l.invariant.2 l.invariant.0 c.loop-i-test.false; bytes = summed_end (every_four a.m.now (a.from + 4) a.step) l.i a.n l.bytes l.invariant.3 l.invariant.0 c.loop-i-test.false }

@@ -20,8 +20,8 @@ pairs_inside-requires c = (
 
 pub returns-then-has-2 : goal.returns-then-has-2
 returns-then-has-2 c =
-    let t = sym c.has.ensures ∙ c.if-has.true in record { summed = ticks_own _ _ _ _ _ c.requires.0 _ _ c.run_head.ensures.value c.stride-step.ensures.value _ t c.pairs_inside.ensures.summed; summed_2 = bytes_own _ _ _ _ _ c.requires.0 _ _ c.run_head.ensures.value c.stride-step.ensures.value _ _ (omega (arith, bytes_set 4 c.args.flags 0x100 t))
-          (sym c.has-then-has.ensures ∙ c.if-has-2.true) c.pairs_inside.ensures.summed_2 }
+    let t = sym c.has.ensures ∙ c.if-has.true in record { ticks = ticks_own _ _ _ _ _ c.requires.0 _ _ c.run_head.ensures.value c.stride-step.ensures.value _ t c.pairs_inside.ensures.ticks; bytes = bytes_own _ _ _ _ _ c.requires.0 _ _ c.run_head.ensures.value c.stride-step.ensures.value _ _ (omega (arith, bytes_set 4 c.args.flags 0x100 t))
+          (sym c.has-then-has.ensures ∙ c.if-has-2.true) c.pairs_inside.ensures.bytes }
 
 pub sum_inside-requires : goal.sum_inside-requires
 sum_inside-requires c = (
@@ -31,7 +31,7 @@ sum_inside-requires c = (
     )
 
 pub returns-then-has : goal.returns-then-has
-returns-then-has c = record { summed = ticks_own _ _ _ _ _ c.requires.0 _ _ c.run_head.ensures.value c.stride-step.ensures.value _ (sym c.has.ensures ∙ c.if-has.true) c.sum_inside.ensures; summed_2 = bytes_shared _ _ _ _ _ c.requires.0 _ (sym c.has-then-has.ensures ∙ c.if-has-2.false) c.times.ensures }
+returns-then-has c = record { ticks = ticks_own _ _ _ _ _ c.requires.0 _ _ c.run_head.ensures.value c.stride-step.ensures.value _ (sym c.has.ensures ∙ c.if-has.true) c.sum_inside.ensures; bytes = bytes_shared _ _ _ _ _ c.requires.0 _ (sym c.has-then-has.ensures ∙ c.if-has-2.false) c.times.ensures }
 
 pub sum_inside-requires-then-has-3 : goal.sum_inside-requires-then-has-3
 sum_inside-requires-then-has-3 c = (
@@ -42,8 +42,8 @@ sum_inside-requires-then-has-3 c = (
 
 pub returns-then-has-3 : goal.returns-then-has-3
 returns-then-has-3 c =
-    let t = sym c.has.ensures ∙ c.if-has.false in record { summed = ticks_shared _ _ _ _ _ c.requires.0 _ t c.times-then-has-3.ensures; summed_2 = bytes_own _ _ _ _ _ c.requires.0 _ _ c.run_head.ensures.value c.stride-step.ensures.value _ _ (omega (arith, bytes_clear 4 c.args.flags 0x100 t))
+    let t = sym c.has.ensures ∙ c.if-has.false in record { ticks = ticks_shared _ _ _ _ _ c.requires.0 _ t c.times-then-has-3.ensures; bytes = bytes_own _ _ _ _ _ c.requires.0 _ _ c.run_head.ensures.value c.stride-step.ensures.value _ _ (omega (arith, bytes_clear 4 c.args.flags 0x100 t))
           (sym c.has-2.ensures ∙ c.if-has-3.true) c.sum_inside-then-has-3.ensures }
 
 pub returns : goal.returns
-returns c = record { summed = ticks_shared _ _ _ _ _ c.requires.0 _ (sym c.has.ensures ∙ c.if-has.false) c.times-2.ensures; summed_2 = bytes_shared _ _ _ _ _ c.requires.0 _ (sym c.has-2.ensures ∙ c.if-has-3.false) c.times-3.ensures }
+returns c = record { ticks = ticks_shared _ _ _ _ _ c.requires.0 _ (sym c.has.ensures ∙ c.if-has.false) c.times-2.ensures; bytes = bytes_shared _ _ _ _ _ c.requires.0 _ (sym c.has-2.ensures ∙ c.if-has-3.false) c.times-3.ensures }
