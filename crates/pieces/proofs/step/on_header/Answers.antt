@@ -35,7 +35,10 @@ pass_over-requires c =
     (ap gathered (sym c.be4-kind.ensures) ∙ sym c.gathered.ensures ∙ c.if-gathered.false))
 
 pub returns : goal.returns
-returns c = record { means_headed = headed_passed c.requires c.if-boxes-ge-BOX_LIMIT.false
-          (rw c.size_of-size.ensures at c.if-size-h.false)
-          (ap gathered (sym c.be4-kind.ensures) ∙ sym c.gathered.ensures ∙ c.if-gathered.false)
-          (rw (c.size_of-size.ensures, c.be4-kind.ensures) at c.pass_over.ensures); kept_len_unchanged = refl }
+returns c = record {
+  means_headed = headed_passed c.requires c.if-boxes-ge-BOX_LIMIT.false
+      (rw c.size_of-size.ensures at c.if-size-h.false)
+      (ap gathered (sym c.be4-kind.ensures) ∙ sym c.gathered.ensures ∙ c.if-gathered.false)
+      (rw (c.size_of-size.ensures, c.be4-kind.ensures) at c.pass_over.ensures);
+  kept_len_unchanged = refl;
+}
