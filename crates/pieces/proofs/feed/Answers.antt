@@ -1,5 +1,5 @@
 -- `pieces::feed` meets its contract. Assumes nothing.
-use mathlib.Core.Path.{sym, ap, ◌∙◌}
+use mathlib.Core.Path.{sym, ◌∙◌}
 use borrow.Author.Rules.{rules}
 use Rattle.pieces.proofs.Piecemeal.{unsound_feeds, fed_feeds}
 use Rattle.pieces.proofs.feed.Goals as goal

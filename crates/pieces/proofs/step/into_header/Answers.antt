@@ -1,5 +1,5 @@
 -- `pieces::step::into_header` meets its contract. Assumes nothing.
-use mathlib.Core.Path.{sym, ap, ◌∙◌}
+use mathlib.Core.Path.{sym, ◌∙◌}
 use native.Mathlib.Omega.{arith}
 use Rattle.pieces.proofs.Filling.{used_of, header_ends, held_copies, header_on, header_whole, header_taken}
 use Rattle.pieces.proofs.step.into_header.Goals as goal
