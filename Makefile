@@ -17,21 +17,21 @@ ARCHIVE := $(if $(FLANGEMINT_LIB_DIR),,archive)
 help: ## this list
 	@awk -F ':.*## ' '/^[a-z-]+:.*## / { printf "  %-13s %s\n", $$1, $$2 }' Makefile
 
-check: ## proves every crate and runs the programs
-	rt check
+check: ## proves every crate
+	rt all check
 
-test: ## the gate: everything from nothing
+test: ## the gate: every proof, must-fail edit, test and program
 	bash .ci/run
 
 ground: ## the ground alone: numbers and the written rules proved, their must-fail edits refused
-	rt fmt --check
+	rt ci numbers rules
 	rt must-fail numbers rules
 
 fmt: ## lays out the Rattle and the Rust sources (cargo)
-	rt fmt
+	for crate in crates/*/; do (cd "$$crate" && rt fmt) || exit; done
 	cargo fmt --all --manifest-path rust/Cargo.toml
 
-archive: ## proves the library and builds it for this machine: target/native (a C compiler)
+archive: ## proves the library and builds it for x86-64: target/native (a C compiler)
 	@tools/build archive archive
 
 cli: ## builds the command, which ./flangemint runs (cargo)

@@ -1,6 +1,6 @@
 -- Laws of the first box that an entry counts: where it is seen, and that a walk over the runs may begin there.
 use mathlib.Core.Path.{◌≡◌, refl, sym, ap, ◌∙◌}
-use mathlib.Core.List.{List, [], ◌∷◌}
+use mathlib.Core.List.{List, []}
 use mathlib.Core.Bool.{Bool, true, false}
 use Prim.Native.Nat.{ℕ, zero, suc, ◌+◌, ◌-◌, ◌≤◌}
 use native.Mathlib.Omega.{arith}
@@ -10,7 +10,7 @@ use lib.Dec.{eqb}
 use borrow.Author.Tests.{eq-eqb, ne_eqb}
 use Rattle.numbers.specs.Numbers.{when}
 use Rattle.rules.specs.Kinds.{trun}
-use Rattle.rules.specs.Boxes.{Box, look, boxes, kids, places_of, head_of, size_of}
+use Rattle.rules.specs.Boxes.{look, boxes, kids, places_of, head_of, size_of}
 use Rattle.rules.specs.Counts.{wanted, seen_from, seen, first_of, first_in, child, some_of, counted, counts}
 use Rattle.rules.specs.Chunk.{traf_in, first_run, runs_in, rule14}
 use Rattle.rules.specs.declared.Entry.{Entry}

@@ -7,7 +7,7 @@ use Prim.Native.Nat.{ℕ, ◌+◌, ◌≤◌}
 use native.Mathlib.Omega.{arith}
 use lib.ListN.{length, take, length-take}
 use lib.Dec.{eqb}
-use Rattle.rules.specs.Boxes.{boxes, kind_of, kids}
+use Rattle.rules.specs.Boxes.{kind_of, kids}
 use Rattle.rules.specs.Rules.{◌then◌, PlacedUpTo}
 use Rattle.rules.specs.Counts.{seen, first_of, first_in, one_of, at_most_one_of, some_of, counted, counts}
 use Rattle.rules.specs.declared.Entry.{Entry}

@@ -4,7 +4,7 @@ use mathlib.Core.List.{List, [], ◌∷◌, ◌++◌}
 use mathlib.Core.Path.{◌≡◌, refl, ap}
 use lib.Dec.{eqb}
 use lib.ListN.{length, set, get_or}
-use Rattle.rules.specs.Bytes.{in4, zeros, boxed}
+use Rattle.rules.specs.Bytes.{zeros, boxed}
 use Rattle.rules.specs.Computed.{computed}
 use Rattle.rules.specs.Examples.{free, nines}
 use Rattle.rules.specs.Jobs.{Job, Shut, Dummy, writes_past, Shown}

@@ -8,7 +8,6 @@ use Rattle.rules.specs.Boxes.{kids}
 use Rattle.rules.specs.Counts.{seen, first_in, counts, counts_if}
 use Rattle.rules.specs.declared.Entry.{Entry}
 use Rattle.rules.specs.declared.Rule.{Rule}
-use Rattle.rules.specs.declared.Rule.TheVariants.{Holds, Breaks}
 use Rattle.rules.specs.declared.Seen.{Seen}
 use Rattle.boxes.specs.Stands.{WholeBox, StandsAt}
 use Rattle.rules.specs.declared.Spot.{Spot}

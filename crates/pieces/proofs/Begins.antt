@@ -16,8 +16,8 @@ use Rattle.rules.specs.Limits.{byte_limit, box_limit}
 use Rattle.rules.specs.Rules.{◌then◌, must, on_rule}
 use Rattle.rules.specs.Boxes.{Box, Forest, bad, node, part, look_at, look, inside, within, forest, boxes, size_of, kind_of, whole}
 use Rattle.rules.specs.Framing.{on_framing, rule5, framing, framing_rule}
-use Rattle.rules.specs.Order.{ordered, step6, on_stepped, rule6}
-use Rattle.rules.specs.Track.{rule1, header_of, chunks, sync_at, in_fragments, fragments, first_moofs, fragment_count, timescale, start_at, first_tick_of, last_end, end_list, end_of_track, ticks, boundaries, rules_of_header, rules_of_chunks}
+use Rattle.rules.specs.Order.{ordered, step6, on_stepped}
+use Rattle.rules.specs.Track.{rule1, header_of, chunks, sync_at, in_fragments, fragments, first_moofs, fragment_count, timescale, start_at, first_tick_of, last_end, end_list, end_of_track, ticks, boundaries}
 use Rattle.rules.specs.Course.{judged_by, waiting, brought, spot_of, stage_of, and_box, course_from, course_end, course_of, facts_of}
 use Rattle.rules.specs.Pieces.{large, with29, framed_with29, ruling_in_pieces, first_boundary, last_boundary, accepted_between, refused_as, answer_for}
 use Rattle.rules.specs.declared.Course.{Course}

@@ -1,5 +1,5 @@
 -- What a box does to a course, by its type: whose bytes are looked at, and when a `moof` waits afterwards.
-use mathlib.Core.Path.{◌≡◌, refl, sym, ap, subst, ◌∙◌}
+use mathlib.Core.Path.{◌≡◌, refl, sym}
 use mathlib.Core.Bool.{Bool, true, false, ◌||◌, true≢false}
 use mathlib.Core.List.{List, []}
 use Prim.Native.Nat.{ℕ}
@@ -10,12 +10,12 @@ use Rattle.numbers.specs.Numbers.{when}
 use Rattle.rules.specs.Kinds.{ftyp, moov, moof, mdat}
 use Rattle.rules.specs.Boxes.{Box, inside}
 use Rattle.rules.specs.Order.{ordered, awaits, step6, on_stepped}
-use Rattle.rules.specs.Course.{stage_of, spot_of, brought, and_box}
+use Rattle.rules.specs.Course.{spot_of, brought, and_box}
 use Rattle.rules.specs.Pieces.{gathered, large}
 use Rattle.rules.specs.declared.Course.{Course}
 use Rattle.rules.specs.declared.Course.TheVariants.{On, Broken}
-use Rattle.rules.specs.declared.Inside.TheVariants.{Leaf, Container}
-use Rattle.rules.specs.declared.Path.TheVariants.{Top, Moov, Moof}
+use Rattle.rules.specs.declared.Inside.TheVariants.{Leaf}
+use Rattle.rules.specs.declared.Path.TheVariants.{Top}
 use Rattle.rules.specs.declared.Reached.{Reached}
 use Rattle.rules.specs.declared.Reached.TheVariants.{Start, Typed, Headed, Halved, Paired}
 use Rattle.rules.specs.declared.Stage.{Stage}

@@ -6,16 +6,15 @@ use Prim.Native.Nat.{ℕ, ◌+◌, ◌-◌, ◌≤◌, ◌<◌}
 use native.Mathlib.Omega.{arith}
 use lib.ListN.{length, take, drop, length-append}
 use lib.Seq.{length-take-le, drop-append-add}
-use lib.Dec.{leb, ltb, eqb}
+use lib.Dec.{ltb, eqb}
 use borrow.Author.Tests.{le-ltb, lt-ltb, le-leb, lt-leb, ltb-true, ltb-false}
 use Rattle.numbers.specs.Numbers.{when}
 use Rattle.rules.specs.Kinds.{mdat}
 use Rattle.rules.specs.Limits.{box_limit}
-use Rattle.rules.specs.Boxes.{Box, part, sized, look, inside, within, forest, head_of, size_of, kind_of}
+use Rattle.rules.specs.Boxes.{Box, sized, look, head_of, size_of, kind_of}
 use Rattle.rules.specs.Framing.{on_framing, rule5, framing}
 use Rattle.rules.specs.Course.{and_box}
 use Rattle.rules.specs.Pieces.{gathered, large}
-use Rattle.rules.specs.declared.Path.TheVariants.{Top}
 use Rattle.rules.specs.declared.Course.{Course}
 use Rattle.rules.specs.declared.Course.TheVariants.{Broken}
 use Rattle.rules.specs.declared.Framing.{Framing}
@@ -25,11 +24,11 @@ use Rattle.rules.specs.declared.Judged.TheVariants.{Refused}
 use Rattle.rules.specs.declared.Look.{Look}
 use Rattle.rules.specs.declared.Look.TheVariants.{Nothing, Short, Small, Beyond, Good}
 use Rattle.rules.proofs.Forest.{look_found, nothing_left}
-use Rattle.pieces.specs.Rest.{number_broken, box_framing, waits_after, rest}
+use Rattle.pieces.specs.Rest.{box_framing, waits_after, rest}
 use Rattle.pieces.specs.State.{halved, kept_moof}
 use Rattle.pieces.proofs.Unfolding.{after_box, rest_step, rest_by_lem}
 use Rattle.pieces.proofs.Whole.{head_length, kind_whole, size_whole, look_whole}
-use Rattle.pieces.proofs.Courses.{NoneOf, ungathered, leaf_on_top, never_large, own_unread, none_waits, none_after, none_kept, breaks_order}
+use Rattle.pieces.proofs.Courses.{ungathered, leaf_on_top, never_large, own_unread, none_waits, none_after, none_kept, breaks_order}
 
 -- a box that is no container, before the limits: one box more
 pub framed_leaf : (b : List ℕ) (at n h z k : ℕ) → n < box_limit → gathered k ≡ false → box_framing b at n h z k ≡ Framed (n + 1)

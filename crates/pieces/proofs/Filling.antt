@@ -1,14 +1,14 @@
 -- Bytes that are held: of a header that is not whole, and of a box that is gathered.
-use mathlib.Core.Path.{◌≡◌, refl, sym, ap, subst, ◌∙◌}
+use mathlib.Core.Path.{◌≡◌, refl, sym, ap, ◌∙◌}
 use mathlib.Core.Bool.{Bool, true, false, true≢false, ◌&&◌, ◌||◌}
-use mathlib.Core.Logic.{◌⊎◌, inl, inr, ⊎_elim}
+use mathlib.Core.Logic.{◌⊎◌, ⊎_elim}
 use mathlib.Core.List.{List, [], ◌++◌, append_assoc}
 use Prim.Native.Nat.{ℕ, ◌+◌, ◌-◌, ◌≤◌, ◌<◌}
 use native.Mathlib.Omega.{arith}
 use lib.ListN.{length, take, drop}
 use lib.Seq.{paste, length-paste}
 use lib.Dec.{ltb, eqb}
-use borrow.Author.Tests.{lt-ltb, le-ltb, le-leb, ltb-true, ltb-false, eq-eqb}
+use borrow.Author.Tests.{lt-ltb, le-leb, ltb-true, ltb-false, eq-eqb}
 use Rattle.numbers.specs.Numbers.{be4, when}
 use Rattle.numbers.proofs.Bounds.{reads4}
 use Rattle.rules.specs.Limits.{gather_limit}
@@ -19,8 +19,8 @@ use Rattle.pieces.specs.State.{sound_phase, open_header, kept_moof, comes_by}
 use Rattle.pieces.specs.Steps.{header_end, MeansAnyway, MeansHeaded, Gathered, after_gathered, Whole, Follows, TakesSome}
 use Rattle.pieces.specs.declared.state.Phase.TheVariants.{Head, Keep}
 use Rattle.pieces.specs.declared.state.Progress.{Progress}
-use Rattle.pieces.proofs.Soundness.{PartLength, PartHeader, PartBox, phase_says, says_phase}
-use Rattle.pieces.proofs.Whole.{head_length, front_reads, head_whole, size_whole}
+use Rattle.pieces.proofs.Soundness.{PartHeader, PartBox, phase_says, says_phase}
+use Rattle.pieces.proofs.Whole.{front_reads, head_whole, size_whole}
 use Rattle.pieces.proofs.Taking.{state_by, sound_by, held_on}
 use Rattle.pieces.proofs.Heading.{alone_sound}
 

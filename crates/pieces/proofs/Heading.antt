@@ -1,5 +1,5 @@
 -- What the states mean that come after a header that is there whole: refused, gathered from now on, or passed by.
-use mathlib.Core.Path.{◌≡◌, refl, sym, ap, ap₂, subst, ◌∙◌}
+use mathlib.Core.Path.{◌≡◌, refl, sym, ap, ◌∙◌}
 use mathlib.Core.Bool.{Bool, true, false, true≢false}
 use mathlib.Core.List.{List, [], ◌++◌}
 use Prim.Native.Nat.{ℕ, ◌+◌, ◌-◌, ◌≤◌, ◌<◌}
@@ -7,7 +7,6 @@ use native.Mathlib.Nat.{zero-add}
 use native.Mathlib.Omega.{arith}
 use lib.ListN.{length, take, drop}
 use lib.Seq.{paste, length-paste, take-paste}
-use lib.Dec.{ltb}
 use borrow.Author.Tests.{lt-ltb}
 use Rattle.numbers.specs.Numbers.{when}
 use Rattle.rules.specs.Limits.{box_limit, gather_limit}
@@ -15,13 +14,12 @@ use Rattle.rules.specs.Boxes.{head_of, size_of, kind_of}
 use Rattle.rules.specs.Pieces.{gathered, large}
 use Rattle.rules.specs.declared.Course.{Course}
 use Rattle.rules.specs.declared.Course.TheVariants.{On, Broken}
-use Rattle.rules.specs.declared.Judged.{Judged}
 use Rattle.rules.specs.declared.Judged.TheVariants.{Refused}
 use Rattle.rules.specs.declared.Reached.TheVariants.{Start, Typed, Headed, Halved, Paired}
 use Rattle.rules.specs.declared.Spot.{Spot}
 use Rattle.pieces.specs.Rest.{rest}
 use Rattle.pieces.specs.State.{sound_course, halved, kept_moof, comes_by}
-use Rattle.pieces.specs.Steps.{stopped_at, beginning_at, ReadyFor, MeansAnyway, MeansHeaded, Gathered, after_gathered, Whole, after_header, Gathers, PassesBy, after_passed}
+use Rattle.pieces.specs.Steps.{stopped_at, beginning_at, MeansAnyway, MeansHeaded, Gathered, after_gathered, Whole, after_header, Gathers, PassesBy, after_passed}
 use Rattle.pieces.specs.declared.state.Phase.TheVariants.{Keep}
 use Rattle.pieces.specs.declared.state.Progress.{Progress}
 use Rattle.pieces.proofs.Soundness.{says_phase}

@@ -1,22 +1,19 @@
 -- What the states mean that come after a box that is gathered whole, and after a header that is there whole.
-use mathlib.Core.Path.{◌≡◌, refl, sym, ap, ap₂, subst, ◌∙◌}
-use mathlib.Core.Bool.{Bool, true, false, true≢false, ◌&&◌}
+use mathlib.Core.Path.{◌≡◌, refl, sym, ap, subst, ◌∙◌}
+use mathlib.Core.Bool.{Bool, true, false, true≢false}
 use mathlib.Core.List.{List, [], ◌++◌, append-nil}
 use Prim.Native.Nat.{ℕ, ◌+◌, ◌-◌, ◌≤◌, ◌<◌}
 use native.Mathlib.Omega.{arith}
-use lib.ListN.{length, take, drop}
-use lib.Seq.{paste, length-take-le, length-paste, take-paste}
-use lib.Dec.{leb, ltb, eqb}
-use borrow.Author.Tests.{lt-ltb, le-ltb, le-leb, leb-false, ltb-true, ltb-false}
+use lib.ListN.{length, take}
+use lib.Seq.{length-take-le}
+use lib.Dec.{leb, ltb}
+use borrow.Author.Tests.{lt-ltb, le-ltb, leb-false, ltb-true, ltb-false}
 use Rattle.numbers.specs.Numbers.{when}
-use Rattle.rules.specs.Kinds.{ftyp, moov}
-use Rattle.rules.specs.Limits.{byte_limit, box_limit, gather_limit}
-use Rattle.rules.specs.Boxes.{Box, sized, look, forest, boxes, head_of, size_of, kind_of}
-use Rattle.rules.specs.Framing.{on_framing, rule5, framing}
-use Rattle.rules.specs.Course.{spot_of, and_box}
-use Rattle.rules.specs.Pieces.{gathered, large}
+use Rattle.rules.specs.Limits.{box_limit}
+use Rattle.rules.specs.Boxes.{sized, look, forest, boxes, head_of, size_of, kind_of}
+use Rattle.rules.specs.Framing.{rule5, framing}
+use Rattle.rules.specs.Course.{and_box}
 use Rattle.rules.specs.declared.Course.{Course}
-use Rattle.rules.specs.declared.Course.TheVariants.{On, Broken}
 use Rattle.rules.specs.declared.Framing.{Framing}
 use Rattle.rules.specs.declared.Framing.TheVariants.{Framed, Misframed}
 use Rattle.rules.specs.declared.Look.TheVariants.{Good}
@@ -26,14 +23,12 @@ use Rattle.rules.proofs.Forest.{look_found, look_nothing, never, forest_box, for
 use Rattle.boxes.specs.Stands.{WholeBox}
 use Rattle.track.specs.Course.{box_of, CourseFits, OwnHeld}
 use Rattle.pieces.specs.Rest.{rest}
-use Rattle.pieces.specs.State.{sound_course, sound_phase, sound, halved, kept_moof, comes_by, open_box}
-use Rattle.pieces.specs.Steps.{waits_in, stopped_at, beginning_at, passing_of, Means, MeansAnyway, MeansHeaded, Gathered, after_gathered, Whole, after_header, Gathers, PassesBy, after_passed}
-use Rattle.pieces.specs.declared.state.Phase.TheVariants.{Head, Keep, Skip, Stopped}
-use Rattle.pieces.specs.declared.state.Progress.{Progress}
-use Rattle.pieces.proofs.Soundness.{FrontBox, SoundCourse, PartBox, course_says, says_course, says_phase}
-use Rattle.pieces.proofs.Whole.{head_length, head_whole, kind_whole, size_whole, look_whole}
-use Rattle.pieces.proofs.Courses.{ungathered, no_mdat, none_kept}
-use Rattle.pieces.proofs.Decided.{decided_5, decided_3, decided_29, decided_pass, decided_order}
+use Rattle.pieces.specs.State.{sound_course, sound_phase, sound, kept_moof, comes_by}
+use Rattle.pieces.specs.Steps.{waits_in, stopped_at, passing_of, Means, MeansAnyway, Gathered, after_gathered, PassesBy, after_passed}
+use Rattle.pieces.specs.declared.state.Phase.TheVariants.{Head, Skip}
+use Rattle.pieces.proofs.Soundness.{FrontBox, SoundCourse, course_says, says_course}
+use Rattle.pieces.proofs.Whole.{head_length, look_whole}
+use Rattle.pieces.proofs.Courses.{ungathered}
 use Rattle.pieces.proofs.Settled.{counts_up, nothing_there, settled_bad, settled_good}
 use Rattle.pieces.proofs.Soundly.{small_size, sound_gathered, sound_passed, fits_alone, fits_kept, waits_kept, waits_within}
 use Rattle.pieces.proofs.Taking.{state_by, sound_by, sound_between}

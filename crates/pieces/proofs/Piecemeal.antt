@@ -1,7 +1,7 @@
 -- Laws of the loop over a piece: step by step what is left of it comes to the same.
-use mathlib.Core.Path.{◌≡◌, refl, sym, ap, ap₂, subst, ◌∙◌}
-use mathlib.Core.Bool.{Bool, true, false, true≢false, ◌&&◌}
-use mathlib.Core.List.{List, [], ◌++◌}
+use mathlib.Core.Path.{◌≡◌, refl, ap, ap₂, ◌∙◌}
+use mathlib.Core.Bool.{false}
+use mathlib.Core.List.{List, ◌++◌}
 use Prim.Native.Nat.{ℕ, ◌+◌, ◌-◌, ◌≤◌, ◌<◌}
 use native.Mathlib.Omega.{arith}
 use lib.ListN.{length, take, drop, length-append, length-drop}
@@ -9,11 +9,11 @@ use lib.Seq.{take_all, drop-drop, drop-length}
 use lib.Dec.{ltb}
 use borrow.Author.Tests.{lt-ltb}
 use Rattle.numbers.specs.Numbers.{when}
-use Rattle.rules.specs.Limits.{byte_limit, gather_limit}
+use Rattle.rules.specs.Limits.{byte_limit}
 use Rattle.rules.specs.declared.Judged.{Judged}
 use Rattle.rules.specs.declared.Judged.TheVariants.{Refused}
 use Rattle.rules.proofs.Laws.{and_first, and_second}
-use Rattle.pieces.specs.State.{state_of, sound_phase, sound_course, sound, comes_by, comes_to, answer_of}
+use Rattle.pieces.specs.State.{state_of, sound_phase, sound_course, sound, comes_to, answer_of}
 use Rattle.pieces.specs.Form.{resume, FeedsFrom}
 use Rattle.pieces.specs.Steps.{FollowsState, TakesState, Sound, ComesSame, stopped_at}
 use Rattle.pieces.specs.declared.state.Progress.{Progress}

@@ -2,9 +2,9 @@
 use mathlib.Core.Path.{◌≡◌, refl, sym, ap, ap₂, ◌∙◌}
 use mathlib.Core.Bool.{Bool, true, false}
 use mathlib.Core.List.{List, [], ◌++◌}
-use Prim.Native.Nat.{ℕ, ◌+◌, ◌-◌, ◌≤◌, ◌<◌}
+use Prim.Native.Nat.{ℕ, ◌+◌, ◌-◌, ◌≤◌}
 use native.Mathlib.Omega.{arith}
-use lib.ListN.{length, take, drop}
+use lib.ListN.{length, take}
 use lib.Seq.{length-take-le, take_at, drop_at}
 use lib.Dec.{leb}
 use Rattle.numbers.specs.Numbers.{when}
@@ -17,7 +17,6 @@ use Rattle.rules.specs.declared.Path.TheVariants.{Top}
 use Rattle.rules.specs.declared.Course.{Course}
 use Rattle.rules.specs.declared.Framing.{Framing}
 use Rattle.rules.specs.declared.Framing.TheVariants.{Framed, Misframed}
-use Rattle.rules.specs.declared.Judged.{Judged}
 use Rattle.rules.specs.declared.Judged.TheVariants.{Refused}
 use Rattle.rules.specs.declared.Look.{Look}
 use Rattle.rules.specs.declared.Look.TheVariants.{Nothing, Short, Small, Beyond, Good}
@@ -25,7 +24,7 @@ use Rattle.rules.proofs.Forest.{look_found, look_nothing, nothing_left, never, f
 use Rattle.appending.proofs.Front.{look_front, part_front}
 use Rattle.pieces.specs.Rest.{box_framing, waits_after, rest}
 use Rattle.pieces.specs.State.{halved, kept_moof}
-use Rattle.pieces.proofs.Unfolding.{after_box, rest_step, rest_by_lem}
+use Rattle.pieces.proofs.Unfolding.{after_box, rest_by_lem}
 use Rattle.pieces.proofs.Courses.{waits_itself}
 
 -- boxes are counted up

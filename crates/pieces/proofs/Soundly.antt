@@ -1,22 +1,22 @@
 -- A sound course stays sound after a box that is gathered and after one that passes by, and it fits what the check of a box asks.
-use mathlib.Core.Path.{◌≡◌, refl, sym, ap, subst, ◌∙◌}
-use mathlib.Core.Bool.{Bool, true, false, true≢false, ◌&&◌}
-use mathlib.Core.List.{List, [], ◌++◌, append-nil}
-use Prim.Native.Nat.{ℕ, ◌+◌, ◌-◌, ◌≤◌, ◌<◌}
+use mathlib.Core.Path.{◌≡◌, refl, sym, ap, ◌∙◌}
+use mathlib.Core.Bool.{Bool, true, false, true≢false}
+use mathlib.Core.List.{List, [], append-nil}
+use Prim.Native.Nat.{ℕ, ◌+◌, ◌-◌, ◌≤◌}
 use native.Mathlib.Omega.{arith}
 use lib.ListN.{length, take}
 use lib.Seq.{length-take-le}
-use lib.Dec.{ltb, eqb}
+use lib.Dec.{eqb}
 use borrow.Author.Tests.{le-ltb}
 use Rattle.numbers.specs.Numbers.{when}
-use Rattle.rules.specs.Kinds.{ftyp, moov, moof, mdat}
-use Rattle.rules.specs.Limits.{byte_limit, box_limit, gather_limit}
+use Rattle.rules.specs.Kinds.{mdat}
+use Rattle.rules.specs.Limits.{byte_limit, gather_limit}
 use Rattle.rules.specs.Rules.{◌then◌, moved}
 use Rattle.rules.specs.Boxes.{Box, head_of, size_of}
 use Rattle.rules.specs.Header.{header_rules}
 use Rattle.rules.specs.Chunk.{shape, timing}
 use Rattle.rules.specs.Order.{ordered, awaits, step6, on_stepped}
-use Rattle.rules.specs.Course.{judged_by, opened_facts, opened, grown, joined, stage_of, spot_of, brought, and_box}
+use Rattle.rules.specs.Course.{judged_by, opened_facts, opened, grown, joined, spot_of, brought, and_box}
 use Rattle.rules.specs.Pieces.{gathered, large}
 use Rattle.rules.specs.declared.Course.{Course}
 use Rattle.rules.specs.declared.Course.TheVariants.{On, Broken}
@@ -30,14 +30,13 @@ use Rattle.rules.specs.declared.Rule.TheVariants.{Holds, Breaks}
 use Rattle.rules.specs.declared.Spot.{Spot}
 use Rattle.rules.specs.declared.Stage.{Stage}
 use Rattle.rules.specs.declared.Stage.TheVariants as stage
-use Rattle.rules.specs.declared.Stepped.{Stepped}
 use Rattle.rules.specs.declared.Stepped.TheVariants.{To, Wrong}
 use Rattle.boxes.specs.Stands.{WholeBox}
 use Rattle.rules.proofs.OnePass.{grown_few}
 use Rattle.track.specs.Course.{FewFragments, CourseFits}
-use Rattle.pieces.specs.State.{sound_course, halved, kept_moof}
+use Rattle.pieces.specs.State.{halved, kept_moof}
 use Rattle.pieces.specs.Steps.{waits_in}
-use Rattle.pieces.proofs.Soundness.{Few, FrontBox, WaitsInFront, SoundCourse, course_says, says_course}
+use Rattle.pieces.proofs.Soundness.{Few, FrontBox, SoundCourse}
 use Rattle.pieces.proofs.Whole.{head_length, head_whole, size_whole}
 use Rattle.pieces.proofs.Courses.{NoneOf, by_step, mdat_ordered}
 

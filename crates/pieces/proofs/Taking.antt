@@ -1,7 +1,7 @@
 -- Laws of one step: bytes that pass by, bytes that are counted alone, and bytes that are held in a buffer.
 use mathlib.Core.Path.{◌≡◌, refl, sym, ap, ap₂, ◌∙◌}
-use mathlib.Core.Bool.{Bool, true, false, true≢false, ◌&&◌, ◌||◌}
-use mathlib.Core.List.{List, [], ◌++◌, append_assoc}
+use mathlib.Core.Bool.{Bool, true, false}
+use mathlib.Core.List.{List, ◌++◌, append_assoc}
 use Prim.Native.Nat.{ℕ, ◌+◌, ◌-◌, ◌≤◌, ◌<◌}
 use native.Mathlib.Omega.{arith}
 use lib.ListN.{length, take, drop, length-append, take-append-drop}
@@ -10,15 +10,13 @@ use lib.Dec.{ltb}
 use borrow.Author.Tests.{lt-ltb, le-ltb, le-leb, ltb-true, ltb-false}
 use Rattle.numbers.specs.Numbers.{when}
 use Rattle.rules.specs.declared.Course.{Course}
-use Rattle.rules.specs.declared.Judged.{Judged}
 use Rattle.rules.specs.declared.Judged.TheVariants.{Refused}
 use Rattle.pieces.specs.Rest.{rest}
 use Rattle.pieces.specs.State.{sound_phase, sound_course, sound, kept_moof, comes_by, open_header}
 use Rattle.pieces.specs.Steps.{Follows, TakesSome}
 use Rattle.pieces.specs.declared.state.Phase.{Phase}
-use Rattle.pieces.specs.declared.state.Phase.TheVariants.{Head, Keep, Skip, Stopped}
+use Rattle.pieces.specs.declared.state.Phase.TheVariants.{Head, Skip, Stopped}
 use Rattle.pieces.specs.declared.state.Progress.{Progress}
-use Rattle.pieces.specs.declared.step.Moved.{Moved}
 use Rattle.pieces.proofs.Soundness.{phase_says}
 
 -- a state by its parts

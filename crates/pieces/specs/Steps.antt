@@ -1,5 +1,5 @@
 -- What the functions of one step ask and say, over the state as it is decoded.
-use Rattle.std.specs.Prelude.{ℕ, ◌+◌, ◌-◌, ◌≤◌, ◌<◌, Bool, true, false, List, [], ◌++◌, ◌≡◌, length, take, drop, ltb}
+use Rattle.std.specs.Prelude.{ℕ, ◌+◌, ◌-◌, ◌≤◌, ◌<◌, true, false, List, [], ◌++◌, ◌≡◌, length, take, drop, ltb}
 use Rattle.numbers.specs.Numbers.{when}
 use Rattle.rules.specs.Limits.{byte_limit, box_limit, gather_limit}
 use Rattle.rules.specs.Boxes.{head_of, size_of, kind_of}

@@ -4,7 +4,7 @@ use mathlib.Core.Bool.{true, not}
 use mathlib.Core.List.{List, ◌∷◌}
 use Prim.Native.Nat.{ℕ, ◌+◌}
 use lib.ListN.{length}
-use Rattle.rules.specs.Rules.{◌then◌, must, moved}
+use Rattle.rules.specs.Rules.{◌then◌, must}
 use Rattle.rules.specs.Boxes.{whole}
 use Rattle.rules.specs.Framing.{rules_of_framing}
 use Rattle.rules.specs.Order.{rule6}

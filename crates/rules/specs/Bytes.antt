@@ -1,7 +1,7 @@
 -- Boxes written as bytes, for the examples: the track T of document 01 and what is made of it.
 use Rattle.std.specs.Prelude.{ℕ, ◌+◌, ◌/◌, ◌%◌, List, [], ◌∷◌, ◌++◌, length, replicate}
-use Rattle.rules.specs.Kinds.{ftyp, moov, mvhd, trak, tkhd, mdia, mdhd, hdlr, minf, vmhd, dinf, dref, stbl, stsd}
-use Rattle.rules.specs.Kinds.{stts, stsc, stsz, stco, mvex, trex, moof, mfhd, traf, tfhd, tfdt, trun, mdat, cmfc, vide}
+use Rattle.rules.specs.Kinds.{ftyp, moov, mvhd, trak, tkhd, mdia, mdhd, hdlr, minf, dinf, dref, stbl, stsd}
+use Rattle.rules.specs.Kinds.{stts, stsc, stsz, stco, mvex, trex, moof, mfhd, traf, tfhd, tfdt, trun, mdat, cmfc}
 
 -- a number as four bytes, and as eight
 unfoldable pub in4 : ℕ → List ℕ

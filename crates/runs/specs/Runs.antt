@@ -4,7 +4,7 @@ use Rattle.numbers.specs.Numbers.{when}
 use Rattle.rules.specs.Kinds.{trun}
 use Rattle.rules.specs.Limits.{sample_limit}
 use Rattle.rules.specs.Boxes.{boxes, places_of}
-use Rattle.rules.specs.Rules.{◌then◌, must, PlacedUpTo}
+use Rattle.rules.specs.Rules.{◌then◌, PlacedUpTo}
 use Rattle.rules.specs.Fields.{wrong_body, body}
 use Rattle.rules.specs.Chunk.{run_form, first_flags_of, run_duration, run_bytes, samples_of, durations_of, bytes_in, first_flags}
 use Rattle.rules.specs.Chunk.{rule15runs, rule16runs, rule22run, rule22runs, is_sync}

@@ -1,7 +1,6 @@
 -- `bundle::frame_records` meets its contract. Assumes nothing.
-use Prim.Native.Nat.{◌-◌}
 use native.Mathlib.Omega.{arith}
-use Rattle.bundle.proofs.Read.{RecordsTo, going_begins, going_on, going_wrong, going_nothing, going_more, going_full, going_ended}
+use Rattle.bundle.proofs.Read.{going_begins, going_on, going_wrong, going_nothing, going_more, going_full, going_ended}
 use Rattle.bundle.proofs.frame_records.Goals as goal
 
 pub loop-k-init : goal.loop-k-init

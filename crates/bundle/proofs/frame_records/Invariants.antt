@@ -1,7 +1,7 @@
 -- `bundle::frame_records` meets its contract. Assumes nothing.
 use Prim.Native.Nat.{◌-◌}
 use Rattle.rules.specs.Limits.{record_limit}
-use Rattle.bundle.proofs.Read.{RecordsTo, going_begins, going_on, going_wrong, going_nothing, going_more, going_full, going_ended}
+use Rattle.bundle.proofs.Read.{RecordsTo}
 use Rattle.bundle.proofs.frame_records.Given as goal
 
 abbrev pub invariant-loop-k : goal.invariant-loop-k

@@ -1,8 +1,7 @@
 use mathlib.Core.Path.{sym, ◌∙◌}
-use Prim.Native.Nat.{◌-◌}
 use native.Mathlib.Omega.{arith}
 use Rattle.boxes.proofs.Walks.{over, found}
-use Rattle.counts.proofs.Walked.{SeenTo, going_none, going_all, going_hit, going_miss}
+use Rattle.counts.proofs.Walked.{going_none, going_all, going_hit, going_miss}
 use Rattle.counts.proofs.tally.Goals as goal
 use Rattle.counts.proofs.tally.Goals.{then-wanted, else-wanted, then-wanted-2, else-wanted-2, then-wanted-3, else-wanted-3}
 
@@ -26,15 +25,15 @@ loop-head-preserved c = let i = c.loop-head.invariant in
     let e = c.look-l.ensures.value in
     let t = c.in-Good.is in (
       elim c.if-wanted.branch [
-        then-wanted y ↦ going_hit _ _ e t i.0 (sym c.wanted.ensures ∙ y.if-wanted.true) y.again_at-u.ensures y.u-is
+        | then-wanted y ↦ going_hit _ _ e t i.0 (sym c.wanted.ensures ∙ y.if-wanted.true) y.again_at-u.ensures y.u-is
         | else-wanted y ↦ going_miss _ _ e t i.0 (sym c.wanted.ensures ∙ y.if-wanted.false) y.u-is
       ],
       elim c.if-wanted-2.branch [
-        then-wanted-2 y ↦ going_hit _ _ e t i.1 (sym c.wanted-in-loop-head.ensures ∙ y.if-wanted-2.true) y.again_at-v.ensures y.v-is
+        | then-wanted-2 y ↦ going_hit _ _ e t i.1 (sym c.wanted-in-loop-head.ensures ∙ y.if-wanted-2.true) y.again_at-v.ensures y.v-is
         | else-wanted-2 y ↦ going_miss _ _ e t i.1 (sym c.wanted-in-loop-head.ensures ∙ y.if-wanted-2.false) y.v-is
       ],
       elim c.if-wanted-3.branch [
-        then-wanted-3 y ↦ going_hit _ _ e t i.2 (sym c.wanted-in-loop-head-2.ensures ∙ y.if-wanted-3.true) y.again_at-x.ensures y.x-is
+        | then-wanted-3 y ↦ going_hit _ _ e t i.2 (sym c.wanted-in-loop-head-2.ensures ∙ y.if-wanted-3.true) y.again_at-x.ensures y.x-is
         | else-wanted-3 y ↦ going_miss _ _ e t i.2 (sym c.wanted-in-loop-head-2.ensures ∙ y.if-wanted-3.false) y.x-is
       ],
     )

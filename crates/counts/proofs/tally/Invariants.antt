@@ -1,6 +1,6 @@
 use Prim.Native.Nat.{◌-◌}
 use lib.ListN.{length}
-use Rattle.counts.proofs.Walked.{SeenTo, going_none, going_all, going_hit, going_miss}
+use Rattle.counts.proofs.Walked.{SeenTo}
 use Rattle.counts.proofs.tally.Given as goal
 
 abbrev pub invariant-loop-head : goal.invariant-loop-head

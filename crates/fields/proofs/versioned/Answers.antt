@@ -1,5 +1,5 @@
 -- `fields::versioned` meets its contract. Assumes nothing.
-use mathlib.Core.Path.{◌≡◌, ◌∙◌}
+use mathlib.Core.Path.{◌∙◌}
 use native.Mathlib.Omega.{arith}
 use Rattle.fields.proofs.Forms.{version_is, is_zero, is_one, is_neither}
 use Rattle.fields.proofs.versioned.Goals as goal

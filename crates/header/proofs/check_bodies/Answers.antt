@@ -1,6 +1,5 @@
 -- `header::check_bodies` meets its contract. Assumes nothing.
 use mathlib.Core.Path.{refl}
-use borrow.Author.Rules.{rules}
 use Rattle.header.proofs.Valued.{header_is}
 use Rattle.header.proofs.Checked.{bodies_tell, eight_breaks, nine_breaks, values_break, all_hold}
 use Rattle.header.proofs.check_bodies.Goals as goal

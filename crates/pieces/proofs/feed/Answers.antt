@@ -1,5 +1,5 @@
 -- `pieces::feed` meets its contract. Assumes nothing.
-use mathlib.Core.Path.{sym, ap, ◌∙◌}
+use mathlib.Core.Path.{sym, ◌∙◌}
 use borrow.Author.Rules.{rules}
 use Rattle.pieces.proofs.Piecemeal.{unsound_feeds, fed_feeds}
 use Rattle.pieces.proofs.feed.Goals as goal
@@ -24,5 +24,10 @@ fed-requires c = let q = rw c.if-quick.false at c.quick.ensures in
 pub returns : goal.returns
 returns c = let q = rw c.if-quick.false at c.quick.ensures in
     fed_feeds _ c.encode.result (sym (rw q.0 at c.decode-st.ensures))
-    (rw (q.1, q.2) at (fed-requires c c.fed.lifetimes)) c.encode.ensures
+    record {
+      bytes = search rules;
+      room = search rules;
+      sound = rw (q.1, q.2) at (sym c.is_sound.ensures ∙ c.if-not-is_sound.false);
+    }
+    c.encode.ensures
     (rw (q.1, q.2) at c.fed.ensures)

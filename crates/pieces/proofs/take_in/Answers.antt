@@ -1,8 +1,7 @@
 -- `pieces::take_in` meets its contract. The invariant: i bytes of the piece are taken. Assumes nothing.
-use Prim.Native.Nat.{◌-◌}
 use mathlib.Core.Path.{sym, ◌∙◌}
 use native.Mathlib.Omega.{arith}
-use Rattle.pieces.proofs.Piecemeal.{Going, going_begins, going_follows, going_on, going_ends}
+use Rattle.pieces.proofs.Piecemeal.{going_begins, going_follows, going_on, going_ends}
 use Rattle.pieces.proofs.take_in.Goals as goal
 
 pub loop-i-init : goal.loop-i-init

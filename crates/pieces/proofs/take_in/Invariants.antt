@@ -1,7 +1,7 @@
 -- `pieces::take_in` meets its contract. The invariant: i bytes of the piece are taken. Assumes nothing.
 use Prim.Native.Nat.{◌-◌}
 use lib.ListN.{length}
-use Rattle.pieces.proofs.Piecemeal.{Going, going_begins, going_follows, going_on, going_ends}
+use Rattle.pieces.proofs.Piecemeal.{Going}
 use Rattle.pieces.proofs.take_in.Given as goal
 
 abbrev pub invariant-loop-i : goal.invariant-loop-i

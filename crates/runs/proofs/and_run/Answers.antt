@@ -1,5 +1,5 @@
 -- `runs::and_run` meets its contract. Assumes nothing.
-use Rattle.std.proofs.Common.{refl, ap, ◌∙◌, arith, rules}
+use Rattle.std.proofs.Common.{refl, ap, ◌∙◌, arith}
 use Rattle.rules.specs.Rules.{◌then◌}
 use Rattle.rules.specs.declared.Rule.{Rule}
 use Rattle.runs.proofs.Walked.{due_before_run, walked_out, walked_in}

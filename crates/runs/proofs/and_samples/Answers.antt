@@ -1,5 +1,5 @@
 -- `runs::and_samples` meets its contract. Assumes nothing.
-use Rattle.std.proofs.Common.{arith, rules}
+use Rattle.std.proofs.Common.{arith}
 use Rattle.runs.proofs.Sums.{span_more}
 use Rattle.runs.proofs.and_samples.Goals as goal
 

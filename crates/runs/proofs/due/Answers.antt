@@ -1,5 +1,5 @@
 -- `runs::due` meets its contract. Assumes nothing.
-use Rattle.std.proofs.Common.{sym, ◌∙◌, true≢false, rules}
+use Rattle.std.proofs.Common.{sym, ◌∙◌, true≢false}
 use Rattle.rules.proofs.Then.{broken}
 use Rattle.runs.proofs.Walked.{due_by}
 use Rattle.runs.proofs.due.Goals as goal

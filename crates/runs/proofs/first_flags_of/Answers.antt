@@ -1,5 +1,5 @@
 -- `runs::first_flags_of` meets its contract. Assumes nothing.
-use Rattle.std.proofs.Common.{sym, ◌∙◌, add-zero, mul-zero, arith, rules}
+use Rattle.std.proofs.Common.{sym, ◌∙◌, add-zero, mul-zero, arith}
 use Rattle.rules.specs.Chunk.{sample_at, first_flags_of}
 use Rattle.runs.proofs.Flags.{reach_first, reach_own}
 use Rattle.runs.proofs.first_flags_of.Goals as goal

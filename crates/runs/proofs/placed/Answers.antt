@@ -1,5 +1,5 @@
 -- `runs::placed` meets its contract. Assumes nothing.
-use Rattle.std.proofs.Common.{sym, ◌∙◌, arith, w32, rules}
+use Rattle.std.proofs.Common.{sym, ◌∙◌, arith, w32}
 use borrow.Author.Rules.{sfits_of}
 use mir.ValLaws.{to_z-of_z}
 use Rattle.rules.specs.Chunk.{placed, offset_is}

@@ -1,5 +1,5 @@
 -- `runs::sync_after` meets its contract. Assumes nothing.
-use Rattle.std.proofs.Common.{rules, eq-eqb, ne_eqb}
+use Rattle.std.proofs.Common.{eq-eqb, ne_eqb}
 use Rattle.runs.proofs.Walked.{one_inside}
 use Rattle.runs.proofs.sync_after.Goals as goal
 

@@ -1,12 +1,12 @@
 -- `runs::walk` meets its contract. Assumes nothing.
-use Rattle.std.proofs.Common.{◌≡◌, ◌*◌, ◌≤◌, ℕ, List, length, take, arith}
+use Rattle.std.proofs.Common.{◌≡◌, ℕ, List, length, take, arith}
 use Rattle.rules.specs.Boxes.{look}
 use Rattle.rules.specs.declared.Look.{Look}
 use Rattle.rules.specs.declared.Look.TheVariants.{Good}
 use Rattle.boxes.specs.Stands.{Stands}
 use Rattle.boxes.proofs.Walks.{found}
 use Rattle.boxes.proofs.Stands.{stands}
-use Rattle.runs.specs.Runs.{runs_at, Walked}
+use Rattle.runs.specs.Runs.{runs_at}
 use Rattle.runs.proofs.Walked.{runs_over, runs_next, runs_same, walked_none, walked_same, walked_wrong}
 use Rattle.runs.proofs.walk.Goals as goal
 use Rattle.runs.proofs.walk.Goals.{then-kind-eq-TRUN+in-Of, else-kind-eq-TRUN}
@@ -56,9 +56,9 @@ loop-head-preserved c =
     let h = c.in-Good.is in
     let b = here c.args.m.now c.args.s.now c.requires.s_value c.look-l.ensures.value c.in-Good.is in
     elim c.if-kind-eq-TRUN.branch [
-      then-kind-eq-TRUN+in-Of x ↦
-        let w = rw x.in-Of.is at x.and_run-step.ensures in
-        rw x.t-is (w.0 _ _ (walked_same a.m.now a.want a.d a.from _ _ l.t l.invariant.0 _ (runs_next a.s.now l.at e h x.if-kind-eq-TRUN.true)), omega (arith, l.invariant.1, w.1, b.low, b.holds))
+      | then-kind-eq-TRUN+in-Of x ↦
+          let w = rw x.in-Of.is at x.and_run-step.ensures in
+          rw x.t-is (w.0 _ _ (walked_same a.m.now a.want a.d a.from _ _ l.t l.invariant.0 _ (runs_next a.s.now l.at e h x.if-kind-eq-TRUN.true)), omega (arith, l.invariant.1, w.1, b.low, b.holds))
       | else-kind-eq-TRUN x ↦
-        rw x.t-is (walked_same a.m.now a.want a.d a.from _ _ l.t l.invariant.0 _ (runs_same a.s.now l.at e h x.if-kind-eq-TRUN.false), omega (arith, l.invariant.1))
+          rw x.t-is (walked_same a.m.now a.want a.d a.from _ _ l.t l.invariant.0 _ (runs_same a.s.now l.at e h x.if-kind-eq-TRUN.false), omega (arith, l.invariant.1))
     ]

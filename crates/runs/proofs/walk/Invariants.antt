@@ -1,5 +1,5 @@
 -- `runs::walk` meets its contract. Assumes nothing.
-use Rattle.std.proofs.Common.{◌-◌, ◌*◌, ◌≤◌, length, ⊎_elim, arith, rules}
+use Rattle.std.proofs.Common.{◌-◌, ◌*◌, ◌≤◌, length}
 use Rattle.runs.specs.Runs.{runs_at, Walked}
 use Rattle.runs.proofs.walk.Given as goal
 

@@ -1,6 +1,6 @@
 -- `track::judge` meets its contract. Assumes nothing.
-use Prim.Native.Nat.{◌-◌}
-use mathlib.Core.Path.{refl, subst}
+use mathlib.Core.Path.{refl, ap, subst}
+use mathlib.Core.Bool.{not}
 use native.Mathlib.Omega.{arith}
 use Rattle.rules.proofs.Forest.{look_found}
 use Rattle.boxes.proofs.Stands.{stands_here}
@@ -38,7 +38,7 @@ pub and_box-course-requires : goal.and_box-course-requires
 and_box-course-requires c = let k = known _ _ _ _ _ c.in-Past.is c.top_box.ensures in
     let g = c.loop-head.invariant in
     let l = c.if-s-gt-BYTE_LIMIT.false in
-    (waits_whole _ g l c.waits_from-from.ensures, own_held _ _ (stands_here (look_found _ _ _ _ _ k.1)) _ refl l _, stopped c.passes.result _ _ c.passes.ensures c.if-not-passes.true)
+    (waits_whole _ g l c.waits_from-from.ensures, own_held _ _ (stands_here (look_found _ _ _ _ _ k.1)) _ refl l _, stopped c.passes.result _ _ c.passes.ensures (ap not c.if-not-passes.true))
 
 pub loop-head-smaller-then-not-passes : goal.loop-head-smaller-then-not-passes
 loop-head-smaller-then-not-passes c = let k = known _ _ _ _ _ c.in-Past.is c.top_box.ensures in
@@ -54,7 +54,7 @@ loop-head-smaller c = let k = known _ _ _ _ _ c.in-Past.is c.top_box.ensures in
 
 pub loop-head-preserved : goal.loop-head-preserved
 loop-head-preserved c = let k = known _ _ _ _ _ c.in-Past.is c.top_box.ensures in
-    subst (Walking _ _ _) (passed_over c.passes.result _ _ c.passes.ensures c.if-not-passes.false _ _ _)
+    subst (Walking _ _ _) (passed_over c.passes.result _ _ c.passes.ensures (ap not c.if-not-passes.false) _ _ _)
     (walking_on _ c.loop-head.invariant k.0 k.1 _ refl)
 
 pub returns-in-Nothing : goal.returns-in-Nothing

@@ -1,7 +1,7 @@
 -- `track::judge` meets its contract. Assumes nothing.
 use Prim.Native.Nat.{◌-◌}
 use lib.ListN.{length}
-use Rattle.track.proofs.Judging.{Walking, walking_begins, over_limit, waits_low, waits_whole, walking_on, walking_ends, walking_breaks}
+use Rattle.track.proofs.Judging.{Walking}
 use Rattle.track.proofs.judge.Given as goal
 
 abbrev pub invariant-loop-head : goal.invariant-loop-head

@@ -1,8 +1,7 @@
 -- `track::write_boundaries` meets its contract. Assumes nothing.
-use Prim.Native.Nat.{◌-◌}
 use mathlib.Core.Path.{◌∙◌}
 use native.Mathlib.Omega.{arith}
-use Rattle.track.proofs.Table.{Writing, writing_begins, end_room, writing_ends, start_room, writing_on}
+use Rattle.track.proofs.Table.{writing_begins, end_room, writing_ends, start_room, writing_on}
 use Rattle.track.proofs.write_boundaries.Goals as goal
 
 pub loop-next-init : goal.loop-next-init
@@ -22,7 +21,7 @@ returns-in_default c = writing_ends _ _ c.loop-next.invariant
 pub offset_bounds-t-k : goal.offset_bounds-t-k
 offset_bounds-t-k c = let n = rw c.in-At.is at c.next_fragment-c.ensures in
     let w = c.loop-next.invariant in
-    omega (arith, c.well-formed, start_room _ _ w n, w.same)
+    omega (arith, c.well_formed, start_room _ _ w n, w.same)
 
 pub bounds-t-k : goal.bounds-t-k
 bounds-t-k c = start_room _ _ c.loop-next.invariant (rw c.in-At.is at c.next_fragment-c.ensures)
@@ -30,7 +29,7 @@ bounds-t-k c = start_room _ _ c.loop-next.invariant (rw c.in-At.is at c.next_fra
 pub overflow_add-k : goal.overflow_add-k
 overflow_add-k c = let n = rw c.in-At.is at c.next_fragment-c.ensures in
     let w = c.loop-next.invariant in
-    omega (arith, c.well-formed, start_room _ _ w n, w.same)
+    omega (arith, c.well_formed, start_room _ _ w n, w.same)
 
 pub loop-next-smaller : goal.loop-next-smaller
 loop-next-smaller c = let n = rw c.in-At.is at c.next_fragment-c.ensures in omega (arith, n.past, n.inner)

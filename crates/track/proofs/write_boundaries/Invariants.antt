@@ -1,7 +1,7 @@
 -- `track::write_boundaries` meets its contract. Assumes nothing.
 use Prim.Native.Nat.{◌-◌}
 use lib.ListN.{length}
-use Rattle.track.proofs.Table.{Writing, writing_begins, end_room, writing_ends, start_room, writing_on}
+use Rattle.track.proofs.Table.{Writing}
 use Rattle.track.proofs.write_boundaries.Given as goal
 
 abbrev pub invariant-loop-next : goal.invariant-loop-next

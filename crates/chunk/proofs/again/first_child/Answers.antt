@@ -1,8 +1,7 @@
 -- `chunk::again::first_child` meets its contract. Assumes nothing.
-use mathlib.Core.Path.{◌≡◌, refl, sym}
-use Prim.Native.Nat.{◌+◌, ◌-◌}
+use mathlib.Core.Path.{sym}
+use Prim.Native.Nat.{◌+◌}
 use native.Mathlib.Omega.{arith}
-use lib.ListN.{length, take}
 use lib.Seq.{length-take-le}
 use Rattle.boxes.proofs.Walks.{over, found}
 use Rattle.chunk.proofs.First.{child_none, child_here, child_later}

@@ -1,5 +1,5 @@
 -- `chunk::again::first_child` meets its contract. Assumes nothing.
-use mathlib.Core.Path.{◌≡◌, refl, sym}
+use mathlib.Core.Path.{◌≡◌}
 use Prim.Native.Nat.{◌+◌, ◌-◌}
 use lib.ListN.{length, take}
 use Rattle.rules.specs.Boxes.{boxes}

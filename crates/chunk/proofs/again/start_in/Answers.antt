@@ -9,18 +9,18 @@ use Rattle.fields.proofs.Forms.{version_is}
 use Rattle.chunk.proofs.Formed.{start_other, start_one}
 use Rattle.chunk.proofs.again.start_in.Goals as goal
 
--- the `tfdt` is the chunk's
-place : (c : goal.After-first_child-tfdt) → c.first_child-tfdt.result.at ≡ tfdt_in c.args.m.now
-unfolding tfdt_in
-place c = c.first_child-tfdt.ensures.place ∙ ap (λ (t : ℕ). child c.args.m.now t tfdt) c.requires.0.place
-
 pub returns-then-byte-eq1 : goal.returns-then-byte-eq1
+unfolding tfdt_in
 returns-then-byte-eq1 c =
     let st = c.first_child-tfdt.ensures.stands in
-    start_one _ c.first_child-tfdt.result (place c) _ (version_is _ _ st ∙ sym c.byte.ensures ∙ c.if-byte-eq1.true) (rw st.head c.be8.ensures)
+    let place : c.first_child-tfdt.result.at ≡ tfdt_in c.args.m.now =
+    c.first_child-tfdt.ensures.place ∙ ap (λ (t : ℕ). child c.args.m.now t tfdt) c.requires.0.place in
+    start_one _ c.first_child-tfdt.result place _ (version_is _ _ st ∙ sym c.byte.ensures ∙ c.if-byte-eq1.true) (rw st.head c.be8.ensures)
 
 pub returns-else-byte-eq1 : goal.returns-else-byte-eq1
-unfolding field
+unfolding field tfdt_in
 returns-else-byte-eq1 c =
     let st = c.first_child-tfdt.ensures.stands in
-    start_other _ c.first_child-tfdt.result (place c) _ (λ o. c.if-byte-eq1.false (c.byte.ensures ∙ sym (version_is _ _ st) ∙ o)) (rw st.head c.be4.ensures)
+    let place : c.first_child-tfdt.result.at ≡ tfdt_in c.args.m.now =
+    c.first_child-tfdt.ensures.place ∙ ap (λ (t : ℕ). child c.args.m.now t tfdt) c.requires.0.place in
+    start_other _ c.first_child-tfdt.result place _ (λ o. c.if-byte-eq1.false (c.byte.ensures ∙ sym (version_is _ _ st) ∙ o)) (rw st.head c.be4.ensures)

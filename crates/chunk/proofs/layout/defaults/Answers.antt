@@ -7,21 +7,21 @@ use Rattle.chunk.proofs.layout.defaults.Goals as goal
 
 pub own-requires : goal.own-requires
 own-requires c = (
-      c.requires.stands_at.stands,
-      λ e. omega (arith, c.requires.flags_value.1, c.bytes_for.ensures.value, c.bytes_for-2.ensures.value, reach_duration c.args.flags (sym c.has.ensures ∙ e)),
-    )
+  c.requires.stands_at.stands,
+  λ e. omega (arith, c.requires.flags_value.1, c.bytes_for.ensures.value, c.bytes_for-2.ensures.value, reach_duration c.args.flags (sym c.has.ensures ∙ e)),
+)
 
 pub own-requires-2 : goal.own-requires-2
 own-requires-2 c = (
-      c.requires.stands_at.stands,
-      λ e. omega (arith, c.requires.flags_value.1, c.bytes_for.ensures.value, c.bytes_for-2.ensures.value, c.bytes_for-3.ensures.value, reach_size c.args.flags (sym c.has-2.ensures ∙ e)),
-    )
+  c.requires.stands_at.stands,
+  λ e. omega (arith, c.requires.flags_value.1, c.bytes_for.ensures.value, c.bytes_for-2.ensures.value, c.bytes_for-3.ensures.value, reach_size c.args.flags (sym c.has-2.ensures ∙ e)),
+)
 
 pub own-requires-3 : goal.own-requires-3
 own-requires-3 c = (
-      c.requires.stands_at.stands,
-      λ e. omega (arith, c.requires.flags_value.1, c.bytes_for.ensures.value, c.bytes_for-2.ensures.value, c.bytes_for-3.ensures.value, c.bytes_for-4.ensures.value, reach_flags c.args.flags (sym c.has-3.ensures ∙ e)),
-    )
+  c.requires.stands_at.stands,
+  λ e. omega (arith, c.requires.flags_value.1, c.bytes_for.ensures.value, c.bytes_for-2.ensures.value, c.bytes_for-3.ensures.value, c.bytes_for-4.ensures.value, reach_flags c.args.flags (sym c.has-3.ensures ∙ e)),
+)
 
 pub returns : goal.returns
 unfolding defaults_in

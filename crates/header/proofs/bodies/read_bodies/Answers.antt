@@ -38,14 +38,13 @@ returns-in_default-read_least-2 c =
     (wrong _ _ _ _ _ c.read_least-2.ensures c.in_default-read_least-2.is))))
 
 pub read_tables-requires : goal.read_tables-requires
-read_tables-requires c =
-    (
-      c.requires,
-      record {
-        mvhd = plain_mvhd _ _ c.read_mvhd.ensures c.in-Plain.is;
-        tkhd = tells _ _ _ _ c.read_timed.ensures c.in-Tells.is;
-        mdhd = tells _ _ _ _ c.read_timed-2.ensures c.in-Tells-read_timed.is;
-        hdlr = tells _ _ _ _ c.read_least.ensures c.in-Tells-read_least.is;
-        stsd = tells _ _ _ _ c.read_least-2.ensures c.in-Tells-read_least-2.is;
-      },
-    )
+read_tables-requires c = (
+  c.requires,
+  record {
+    mvhd = plain_mvhd _ _ c.read_mvhd.ensures c.in-Plain.is;
+    tkhd = tells _ _ _ _ c.read_timed.ensures c.in-Tells.is;
+    mdhd = tells _ _ _ _ c.read_timed-2.ensures c.in-Tells-read_timed.is;
+    hdlr = tells _ _ _ _ c.read_least.ensures c.in-Tells-read_least.is;
+    stsd = tells _ _ _ _ c.read_least-2.ensures c.in-Tells-read_least-2.is;
+  },
+)

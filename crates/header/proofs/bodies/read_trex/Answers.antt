@@ -1,6 +1,4 @@
 -- `header::bodies::read_trex` meets its contract. Assumes nothing.
-use mathlib.Core.Path.{◌≡◌}
-use Prim.Native.Nat.{◌+◌}
 use native.Mathlib.Omega.{arith}
 use Rattle.header.proofs.Read.{good_body, bad, plain_fits, defaults_are}
 use Rattle.header.proofs.bodies.read_trex.Goals as goal

@@ -1,7 +1,5 @@
 -- `header::ftyp::read_ftyp` meets its contract. The loop's invariant: the first i brands are none of the two. The measure is the
 -- brands that are left. Assumes nothing.
-use mathlib.Core.Bool.{false}
-use Prim.Native.Nat.{◌-◌, ◌≤◌}
 use native.Mathlib.Omega.{arith}
 use Rattle.header.proofs.Compatible.{none_yet, none_more, too_small, no_fours, found, found_none}
 use Rattle.header.proofs.ftyp.read_ftyp.Goals as goal

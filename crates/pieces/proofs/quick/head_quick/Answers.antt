@@ -14,7 +14,7 @@ pub returns : goal.returns
 returns c =
     λ kept.
     headed_feeds c.args.numbers.now _ c.args.piece.now _ _ c.moved_on.ensures c.args.head.now kept _ c.requires
-    (omega (arith, c.well-formed))
+    (omega (arith, c.well_formed))
     (omega arith)
     refl
     c.copy_in.ensures

@@ -10,14 +10,14 @@ returns-then-head_of-m c = rw (← c.head_of.ensures, ne_eqb _ _ c.if-head_of-m.
 pub returns-then-size_of-m : goal.returns-then-size_of-m
 unfolding kept_box
 returns-then-size_of-m c =
-    rw (← c.head_of.ensures, eq-eqb _ _ c.if-head_of-m.false, ← c.type_size.ensures, ne_eqb _ _ c.if-size_of-m.true)
+    rw (← c.head_of.ensures, eq-eqb _ _ c.if-head_of-m.false, ← c.size_of.ensures, ne_eqb _ _ c.if-size_of-m.true)
 
 pub returns-then-m : goal.returns-then-m
 unfolding kept_box
 returns-then-m c =
-    rw (← c.head_of.ensures, eq-eqb _ _ c.if-head_of-m.false, ← c.type_size.ensures, eq-eqb _ _ c.if-size_of-m.false, lt-leb _ _ c.if-m.true)
+    rw (← c.head_of.ensures, eq-eqb _ _ c.if-head_of-m.false, ← c.size_of.ensures, eq-eqb _ _ c.if-size_of-m.false, lt-leb _ _ c.if-m.true)
 
 pub returns : goal.returns
 unfolding kept_box
 returns c =
-    rw (← c.head_of.ensures, eq-eqb _ _ c.if-head_of-m.false, ← c.type_size.ensures, eq-eqb _ _ c.if-size_of-m.false, le-leb _ _ c.if-m.false)
+    rw (← c.head_of.ensures, eq-eqb _ _ c.if-head_of-m.false, ← c.size_of.ensures, eq-eqb _ _ c.if-size_of-m.false, le-leb _ _ c.if-m.false)

@@ -10,9 +10,9 @@ returns-then-n-head_of c = rw (← c.head_of.ensures, lt-leb _ _ c.if-n-head_of.
 pub returns-then-size-n : goal.returns-then-size-n
 unfolding open_box
 returns-then-size-n c =
-    rw (← c.head_of.ensures, le-leb _ _ c.if-n-head_of.false, ← c.type_size.ensures, le-ltb _ _ c.if-size-n.true)
+    rw (← c.head_of.ensures, le-leb _ _ c.if-n-head_of.false, ← c.size_of-size.ensures, le-ltb _ _ c.if-size-n.true)
 
 pub returns : goal.returns
 unfolding open_box
 returns c =
-    rw (← c.head_of.ensures, le-leb _ _ c.if-n-head_of.false, ← c.type_size.ensures, lt-ltb _ _ c.if-size-n.false)
+    rw (← c.head_of.ensures, le-leb _ _ c.if-n-head_of.false, ← c.size_of-size.ensures, lt-ltb _ _ c.if-size-n.false)

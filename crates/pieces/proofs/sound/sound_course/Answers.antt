@@ -1,12 +1,12 @@
 -- `pieces::sound::sound_course` meets its contract. Assumes nothing.
-use borrow.Author.Tests.{le-leb, lt-leb, not-true, not-false}
+use borrow.Author.Tests.{le-leb, lt-leb}
 use Rattle.pieces.specs.State.{sound_course}
 use Rattle.pieces.proofs.sound.sound_course.Goals as goal
 
 pub returns-then-not-few_fragments : goal.returns-then-not-few_fragments
 unfolding sound_course
 returns-then-not-few_fragments c =
-    rw (c.in-On.is, c.in-Halved.is, ← c.few_fragments-in-Halved.ensures, not-true c.few_fragments-in-Halved.result c.if-not-few_fragments.true)
+    rw (c.in-On.is, c.in-Halved.is, ← c.few_fragments-in-Halved.ensures, c.if-not-few_fragments.true)
 
 pub returns-then-m-gt-BYTE_LIMIT : goal.returns-then-m-gt-BYTE_LIMIT
 unfolding sound_course
@@ -15,7 +15,7 @@ returns-then-m-gt-BYTE_LIMIT c =
       c.in-On.is,
       c.in-Halved.is,
       ← c.few_fragments-in-Halved.ensures,
-      not-false c.few_fragments-in-Halved.result c.if-not-few_fragments.false,
+      c.if-not-few_fragments.false,
       lt-leb _ _ c.if-m-gt-BYTE_LIMIT.true,
     )
 
@@ -42,7 +42,7 @@ returns-else-m-gt-BYTE_LIMIT c =
       c.in-On.is,
       c.in-Halved.is,
       ← c.few_fragments-in-Halved.ensures,
-      not-false c.few_fragments-in-Halved.result c.if-not-few_fragments.false,
+      c.if-not-few_fragments.false,
       le-leb _ _ c.if-m-gt-BYTE_LIMIT.false,
     )
     c.kept_box.ensures

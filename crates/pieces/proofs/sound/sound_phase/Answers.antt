@@ -1,5 +1,5 @@
 -- `pieces::sound::sound_phase` meets its contract. Assumes nothing.
-use borrow.Author.Tests.{le-leb, lt-leb, not-true, not-false}
+use borrow.Author.Tests.{le-leb, lt-leb}
 use Rattle.pieces.specs.State.{sound_phase}
 use Rattle.pieces.proofs.Soundness.{unless}
 use Rattle.pieces.proofs.sound.sound_phase.Goals as goal
@@ -15,7 +15,7 @@ returns-then-total-n-2 c = rw (c.in-Keep.is, lt-leb _ _ c.if-total-n-2.true)
 pub returns-then-not-open_box : goal.returns-then-not-open_box
 unfolding sound_phase
 returns-then-not-open_box c =
-    rw (c.in-Keep.is, le-leb _ _ c.if-total-n-2.false, ← c.open_box.ensures, not-true c.open_box.result c.if-not-open_box.true)
+    rw (c.in-Keep.is, le-leb _ _ c.if-total-n-2.false, ← c.open_box.ensures, c.if-not-open_box.true)
 
 pub returns-in-Unstarted : goal.returns-in-Unstarted
 unfolding sound_phase
@@ -32,7 +32,7 @@ returns-else-not-open_box c =
       c.in-Keep.is,
       le-leb _ _ c.if-total-n-2.false,
       ← c.open_box.ensures,
-      not-false c.open_box.result c.if-not-open_box.false,
+      c.if-not-open_box.false,
       ← c.halved.ensures,
     )
     (unless c.halved.result)

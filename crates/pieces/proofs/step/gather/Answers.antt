@@ -6,8 +6,7 @@ use Rattle.pieces.proofs.step.gather.Goals as goal
 
 pub returns-then-size-gt-GATHER_LIMIT : goal.returns-then-size-gt-GATHER_LIMIT
 returns-then-size-gt-GATHER_LIMIT c =
-    let met = rw c.stop_at.ensures (gathered_29 c.requires c.if-size-gt-GATHER_LIMIT.true, refl) in
-    record { means_headed = met.0; kept_len_unchanged = met.1 }
+    record { means_headed = rw c.stop_at.ensures (gathered_29 c.requires c.if-size-gt-GATHER_LIMIT.true); kept_len_unchanged = refl }
 
 pub copy_in-requires : goal.copy_in-requires
 copy_in-requires c = let g = c.requires in
@@ -20,19 +19,19 @@ settle_box-requires c = let g = c.requires in
 
 pub returns-then-size-h : goal.returns-then-size-h
 returns-then-size-h c =
-    let met = let g = c.requires in
+    let g = c.requires in
     let l = c.if-size-gt-GATHER_LIMIT.false in
     let e = c.copy_in.ensures in
-    rw e (
-      gathered_settles g l c.if-size-h.true (rw (c.beginning-course.ensures, e) at c.settle_box.ensures),
-      buf_room g ∙ sym g.whole.ready.room,
-    ) in
-    record { means_headed = met.0; kept_len_unchanged = met.1 }
+    record {
+      means_headed = rw e (gathered_settles g l c.if-size-h.true (rw (c.beginning-course.ensures, e) at c.settle_box.ensures));
+      kept_len_unchanged = rw e (buf_room g ∙ sym g.whole.ready.room);
+    }
 
 pub returns : goal.returns
 returns c =
-    let met = let g = c.requires in
+    let g = c.requires in
     let l = c.if-size-gt-GATHER_LIMIT.false in
-    rw (c.beginning-course.ensures, c.copy_in.ensures)
-    (gathered_keeps g l (omega (arith, g.holds, c.if-size-h.false)), buf_room g ∙ sym g.whole.ready.room) in
-    record { means_headed = met.0; kept_len_unchanged = met.1 }
+    record {
+      means_headed = rw (c.beginning-course.ensures, c.copy_in.ensures) (gathered_keeps g l (omega (arith, g.holds, c.if-size-h.false)));
+      kept_len_unchanged = rw c.copy_in.ensures (buf_room g ∙ sym g.whole.ready.room);
+    }

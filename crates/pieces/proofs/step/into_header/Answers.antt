@@ -1,30 +1,30 @@
 -- `pieces::step::into_header` meets its contract. Assumes nothing.
-use mathlib.Core.Path.{sym, ap, ◌∙◌}
+use mathlib.Core.Path.{sym, ◌∙◌}
 use native.Mathlib.Omega.{arith}
 use Rattle.pieces.proofs.Filling.{used_of, header_ends, held_copies, header_on, header_whole, header_taken}
 use Rattle.pieces.proofs.step.into_header.Goals as goal
 
 pub overflow_sub-header_end : goal.overflow_sub-header_end
-overflow_sub-header_end c = omega (arith, c.header_end.ensures, header_ends c.pre)
+overflow_sub-header_end c = omega (arith, c.header_end.ensures, header_ends c.requires)
 
 pub copy_in-requires : goal.copy_in-requires
-copy_in-requires c = let l = rw c.header_end.ensures at c.smaller-used.ensures in held_copies c.pre (used_of l.0 l.1)
+copy_in-requires c = let l = rw c.header_end.ensures at c.smaller-used.ensures in held_copies c.requires (used_of l.upper_bound l.fact)
 
 pub returns-then-open_header : goal.returns-then-open_header
 returns-then-open_header c =
     let e = c.copy_in.ensures in
     let l = rw c.header_end.ensures at c.smaller-used.ensures in
-    rw e (header_on c.pre (used_of l.0 l.1) (rw e at (sym c.open_header.ensures ∙ c.if-open_header.taken)))
+    rw e (header_on c.requires (used_of l.upper_bound l.fact) (rw e at (sym c.open_header.ensures ∙ c.if-open_header.true)))
 
 pub on_header-state-requires : goal.on_header-state-requires
 on_header-state-requires c =
     let e = c.copy_in.ensures in
     let l = rw c.header_end.ensures at c.smaller-used.ensures in
-    rw e (header_whole c.pre (used_of l.0 l.1) (rw e at (sym c.open_header.ensures ∙ c.if-open_header.left)))
+    rw e (header_whole c.requires (used_of l.upper_bound l.fact) (rw e at (sym c.open_header.ensures ∙ c.if-open_header.false)))
 
 pub returns : goal.returns
 returns c =
     let e = c.copy_in.ensures in
     let l = rw c.header_end.ensures at c.smaller-used.ensures in
     let h = c.on_header-state.ensures in
-    rw e (header_taken c.pre (used_of l.0 l.1) (rw e at h.0) h.1)
+    rw e (header_taken c.requires (used_of l.upper_bound l.fact) (rw e at h.means_headed) h.kept_len_unchanged)

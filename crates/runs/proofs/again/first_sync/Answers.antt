@@ -63,7 +63,7 @@ loop-head-preserved c =
     let h = c.in-Good.is in
     let b = here a.m.now a.s.now c.requires.1 e h in
     elim c.if-kind-eq-TRUN.branch [
-      then-kind-eq-TRUN+else-be4-ne0 w ↦
-        first_later a.m.now a.d _ _ l.invariant l.at _ (runs_next a.s.now l.at e h w.if-kind-eq-TRUN.true) (sym (count_read _ _ b w.be4.ensures) ∙ w.if-be4-ne0.false)
+      | then-kind-eq-TRUN+else-be4-ne0 w ↦
+          first_later a.m.now a.d _ _ l.invariant l.at _ (runs_next a.s.now l.at e h w.if-kind-eq-TRUN.true) (sym (count_read _ _ b w.be4.ensures) ∙ w.if-be4-ne0.false)
       | else-kind-eq-TRUN w ↦ l.invariant ∙ ap (first_flags a.m.now a.d) (runs_same a.s.now l.at e h w.if-kind-eq-TRUN.false)
     ]

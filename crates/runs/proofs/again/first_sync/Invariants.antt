@@ -1,6 +1,6 @@
 -- `runs::again::first_sync` meets its contract. Assumes nothing.
-use Rattle.std.proofs.Common.{◌≡◌, ℕ, ◌-◌, length, sym, refl, ap, ◌∙◌, ⊎_elim, arith, rules}
-use Rattle.rules.specs.Chunk.{count_of, first_flags, is_sync}
+use Rattle.std.proofs.Common.{◌≡◌, ◌-◌, length}
+use Rattle.rules.specs.Chunk.{first_flags}
 use Rattle.runs.specs.Runs.{runs_at}
 use Rattle.runs.proofs.again.first_sync.Given as goal
 

@@ -1,5 +1,5 @@
 -- `runs::again::flags_of` meets its contract. Assumes nothing.
-use Rattle.std.proofs.Common.{add-zero, mul-zero, rules}
+use Rattle.std.proofs.Common.{add-zero, mul-zero}
 use Rattle.rules.specs.Fields.{field}
 use Rattle.rules.specs.Chunk.{sample_at, first_flags_of}
 use Rattle.runs.proofs.again.flags_of.Goals as goal

@@ -1,6 +1,5 @@
 -- `runs::samples::block` meets its contract. What is kept are the rows passed, in all and their odd bytes (`Added`). Assumes nothing.
-use Rattle.std.proofs.Common.{◌≡◌, ℕ, ◌+◌, ◌-◌, ◌*◌, ◌<◌, ◌≤◌, length, refl, le_antisymm, arith, rules}
-use Rattle.numbers.specs.Numbers.{byte}
+use Rattle.std.proofs.Common.{◌+◌, length, refl, le_antisymm, arith}
 use Rattle.runs.proofs.Sums.{step_inside, step_none, step_on_lem}
 use Rattle.runs.proofs.Rows.{Added, added_none, added_more, added_all, lanes_small}
 use Rattle.runs.proofs.samples.block.Goals as goal
@@ -17,8 +16,8 @@ overflow_add-odd c =
     let a = c.args in
     let l = c.loop-i in
     let m : Added a.m.now a.from a.step (l.i + 1) c.wrapping_add_u64-all.result (l.odd + c.lanes-odd.result) =
-      added_more a.m.now a.from a.step l.i l.p c.row-x.result l.all l.odd c.wrapping_add_u64-all.result c.lanes-odd.result
-      (λ j. omega (arith, c.type_inv.m j)) l.invariant.1 c.row-x.ensures l.invariant.2 c.wrapping_add_u64-all.ensures.value c.lanes-odd.ensures in
+    added_more a.m.now a.from a.step l.i l.p c.row-x.result l.all l.odd c.wrapping_add_u64-all.result c.lanes-odd.result
+    (λ j. omega (arith, c.type_inv.m j)) l.invariant.1 c.row-x.ensures l.invariant.2 c.wrapping_add_u64-all.ensures.value c.lanes-odd.ensures in
     omega (
       arith,
       m.odd,
@@ -30,9 +29,12 @@ overflow_add-p c = omega (arith, step_inside c.args.from c.args.step c.args.n c.
 
 pub loop-i-preserved : goal.loop-i-preserved
 loop-i-preserved c = let a = c.args in
-    let l = c.loop-i in
-    (omega arith, step_on_lem a.from a.step l.i l.p l.invariant.1, added_more a.m.now a.from a.step l.i l.p c.row-x.result l.all l.odd c.wrapping_add_u64-all.result c.lanes-odd.result
-      (λ j. omega (arith, c.type_inv.m j)) l.invariant.1 c.row-x.ensures l.invariant.2 c.wrapping_add_u64-all.ensures.value c.lanes-odd.ensures)
+    let l = c.loop-i in (
+      omega arith,
+      step_on_lem a.from a.step l.i l.p l.invariant.1,
+      added_more a.m.now a.from a.step l.i l.p c.row-x.result l.all l.odd c.wrapping_add_u64-all.result c.lanes-odd.result
+          (λ j. omega (arith, c.type_inv.m j)) l.invariant.1 c.row-x.ensures l.invariant.2 c.wrapping_add_u64-all.ensures.value c.lanes-odd.ensures,
+    )
 
 pub returns : goal.returns
 returns c =

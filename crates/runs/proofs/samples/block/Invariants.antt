@@ -1,6 +1,6 @@
 -- `runs::samples::block` meets its contract. What is kept are the rows passed, in all and their odd bytes (`Added`). Assumes nothing.
-use Rattle.std.proofs.Common.{◌≡◌, ℕ, ◌+◌, ◌-◌, ◌*◌, ◌<◌, ◌≤◌, length, refl, le_antisymm, arith, rules}
-use Rattle.runs.proofs.Rows.{Added, added_none, added_more, added_all, lanes_small}
+use Rattle.std.proofs.Common.{◌≡◌, ◌+◌, ◌-◌, ◌*◌, ◌≤◌}
+use Rattle.runs.proofs.Rows.{Added}
 use Rattle.runs.proofs.samples.block.Given as goal
 
 abbrev pub invariant-loop-i : goal.invariant-loop-i

@@ -1,16 +1,16 @@
 -- `runs::samples::few_rows` meets its contract. The sums are those of the samples passed, and the place a step on for each of them. Assumes nothing.
-use Rattle.std.proofs.Common.{◌≡◌, ◌+◌, ◌-◌, ◌*◌, ◌≤◌, length, arith, rules}
-use Rattle.runs.specs.Samples.{every_four, Summed}
+use Rattle.std.proofs.Common.{◌+◌, length, arith}
+use Rattle.runs.specs.Samples.{every_four}
 use Rattle.runs.proofs.Sums.{step_inside, step_none, step_on_lem, summed_none, summed_at, summed_end}
 use Rattle.runs.proofs.samples.few_rows.Goals as goal
 
 pub loop-i-init : goal.loop-i-init
 loop-i-init c = let a = c.args in (
-      omega arith,
-      step_none a.from a.step,
-      summed_none (every_four a.m.now a.from a.step),
-      summed_none (every_four a.m.now (a.from + 4) a.step),
-    )
+  omega arith,
+  step_none a.from a.step,
+  summed_none (every_four a.m.now a.from a.step),
+  summed_none (every_four a.m.now (a.from + 4) a.step),
+)
 
 pub near4-requires : goal.near4-requires
 near4-requires c = let a = c.args in

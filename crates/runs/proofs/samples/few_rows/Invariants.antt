@@ -1,5 +1,5 @@
 -- `runs::samples::few_rows` meets its contract. The sums are those of the samples passed, and the place a step on for each of them. Assumes nothing.
-use Rattle.std.proofs.Common.{◌≡◌, ◌+◌, ◌-◌, ◌*◌, ◌≤◌, length, arith, rules}
+use Rattle.std.proofs.Common.{◌≡◌, ◌+◌, ◌-◌, ◌*◌, ◌≤◌}
 use Rattle.runs.specs.Samples.{every_four, Summed}
 use Rattle.runs.proofs.samples.few_rows.Given as goal
 

@@ -1,5 +1,5 @@
 -- `runs::samples::in_block` meets its contract. Assumes nothing.
-use Rattle.std.proofs.Common.{arith, rules}
+use Rattle.std.proofs.Common.{arith}
 use Rattle.runs.proofs.samples.in_block.Goals as goal
 
 pub block-requires : goal.block-requires

@@ -1,7 +1,7 @@
 -- `runs::samples::many_rows` meets its contract. The sums are those of the samples passed, all but those that are left. Assumes nothing.
-use Rattle.std.proofs.Common.{◌≡◌, ◌+◌, ◌-◌, ◌*◌, ◌<◌, ◌≤◌, length, mul-add, arith}
+use Rattle.std.proofs.Common.{◌≡◌, ◌+◌, ◌-◌, ◌<◌, ◌≤◌, length, mul-add, arith}
 use native.Mathlib.Nat.{sub_self}
-use Rattle.runs.specs.Samples.{every_four, Summed}
+use Rattle.runs.specs.Samples.{every_four}
 use Rattle.runs.proofs.Sums.{steps_inside, step_none, summed_none, summed_join}
 use Rattle.runs.proofs.samples.many_rows.Goals as goal
 use Rattle.runs.proofs.samples.many_rows.Goals.{then-left-gt-BLOCK, else-left-gt-BLOCK}
@@ -22,21 +22,21 @@ in_block-b-requires c =
     let l = c.loop-left in
     let k = c.if-left-gt-BLOCK.k in
     let t : (0 < k) × (k ≤ 256) × (k ≤ l.left) =
-      elim c.if-left-gt-BLOCK.branch [ then-left-gt-BLOCK w ↦ omega arith | else-left-gt-BLOCK w ↦ omega arith ] in
+    elim c.if-left-gt-BLOCK.branch [ then-left-gt-BLOCK w ↦ omega arith | else-left-gt-BLOCK w ↦ omega arith ] in
     (t.1, omega arith, steps_inside a.from a.step a.n (a.n - l.left) k l.p (length a.m.now) l.invariant.1 (omega (arith, t)) c.requires.2)
 
 pub overflow_add-ticks : goal.overflow_add-ticks
 overflow_add-ticks c =
     let k = c.if-left-gt-BLOCK.k in
     let t : (0 < k) × (k ≤ 256) × (k ≤ c.loop-left.left) =
-      elim c.if-left-gt-BLOCK.branch [ then-left-gt-BLOCK w ↦ omega arith | else-left-gt-BLOCK w ↦ omega arith ] in
+    elim c.if-left-gt-BLOCK.branch [ then-left-gt-BLOCK w ↦ omega arith | else-left-gt-BLOCK w ↦ omega arith ] in
     omega (arith, t, c.in_block-b.ensures.ticks.small)
 
 pub overflow_add-bytes : goal.overflow_add-bytes
 overflow_add-bytes c =
     let k = c.if-left-gt-BLOCK.k in
     let t : (0 < k) × (k ≤ 256) × (k ≤ c.loop-left.left) =
-      elim c.if-left-gt-BLOCK.branch [ then-left-gt-BLOCK w ↦ omega arith | else-left-gt-BLOCK w ↦ omega arith ] in
+    elim c.if-left-gt-BLOCK.branch [ then-left-gt-BLOCK w ↦ omega arith | else-left-gt-BLOCK w ↦ omega arith ] in
     omega (arith, t, c.in_block-b.ensures.bytes.small)
 
 pub overflow_mul-p : goal.overflow_mul-p
@@ -44,7 +44,7 @@ overflow_mul-p c =
     let a = c.args in
     let k = c.if-left-gt-BLOCK.k in
     let t : (0 < k) × (k ≤ 256) × (k ≤ c.loop-left.left) =
-      elim c.if-left-gt-BLOCK.branch [ then-left-gt-BLOCK w ↦ omega arith | else-left-gt-BLOCK w ↦ omega arith ] in
+    elim c.if-left-gt-BLOCK.branch [ then-left-gt-BLOCK w ↦ omega arith | else-left-gt-BLOCK w ↦ omega arith ] in
     omega (arith, steps_inside a.from a.step a.n (a.n - c.loop-left.left) k c.loop-left.p (length a.m.now) c.loop-left.invariant.1 (omega (arith, t)) c.requires.2)
 
 pub overflow_add-p : goal.overflow_add-p
@@ -52,21 +52,21 @@ overflow_add-p c =
     let a = c.args in
     let k = c.if-left-gt-BLOCK.k in
     let t : (0 < k) × (k ≤ 256) × (k ≤ c.loop-left.left) =
-      elim c.if-left-gt-BLOCK.branch [ then-left-gt-BLOCK w ↦ omega arith | else-left-gt-BLOCK w ↦ omega arith ] in
+    elim c.if-left-gt-BLOCK.branch [ then-left-gt-BLOCK w ↦ omega arith | else-left-gt-BLOCK w ↦ omega arith ] in
     omega (arith, steps_inside a.from a.step a.n (a.n - c.loop-left.left) k c.loop-left.p (length a.m.now) c.loop-left.invariant.1 (omega (arith, t)) c.requires.2)
 
 pub loop-left-smaller : goal.loop-left-smaller
 loop-left-smaller c =
     let k = c.if-left-gt-BLOCK.k in
     let t : (0 < k) × (k ≤ 256) × (k ≤ c.loop-left.left) =
-      elim c.if-left-gt-BLOCK.branch [ then-left-gt-BLOCK w ↦ omega arith | else-left-gt-BLOCK w ↦ omega arith ] in
+    elim c.if-left-gt-BLOCK.branch [ then-left-gt-BLOCK w ↦ omega arith | else-left-gt-BLOCK w ↦ omega arith ] in
     omega (arith, t)
 
 pub loop-left-preserved : goal.loop-left-preserved
 loop-left-preserved c =
     let k = c.if-left-gt-BLOCK.k in
     let t : (0 < k) × (k ≤ 256) × (k ≤ c.loop-left.left) =
-      elim c.if-left-gt-BLOCK.branch [ then-left-gt-BLOCK w ↦ omega arith | else-left-gt-BLOCK w ↦ omega arith ] in
+    elim c.if-left-gt-BLOCK.branch [ then-left-gt-BLOCK w ↦ omega arith | else-left-gt-BLOCK w ↦ omega arith ] in
     let b = c.in_block-b in
     let l = c.loop-left in
     let a = c.args in

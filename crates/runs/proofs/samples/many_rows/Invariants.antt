@@ -1,5 +1,5 @@
 -- `runs::samples::many_rows` meets its contract. The sums are those of the samples passed, all but those that are left. Assumes nothing.
-use Rattle.std.proofs.Common.{◌≡◌, ◌+◌, ◌-◌, ◌*◌, ◌<◌, ◌≤◌, length, ⊎_elim, mul-add, arith}
+use Rattle.std.proofs.Common.{◌≡◌, ◌+◌, ◌-◌, ◌*◌, ◌≤◌}
 use Rattle.runs.specs.Samples.{every_four, Summed}
 use Rattle.runs.proofs.samples.many_rows.Given as goal
 

@@ -1,5 +1,5 @@
 -- `runs::samples::row` meets its contract. Assumes nothing.
-use Rattle.std.proofs.Common.{◌+◌, ◌-◌, arith, rules}
+use Rattle.std.proofs.Common.{◌+◌, ◌-◌, arith}
 use Rattle.runs.proofs.Rows.{row_of}
 use Rattle.runs.proofs.samples.row.Goals as goal
 

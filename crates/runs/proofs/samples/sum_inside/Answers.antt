@@ -1,5 +1,5 @@
 -- `runs::samples::sum_inside` meets its contract. Assumes nothing.
-use Rattle.std.proofs.Common.{◌≡◌, ◌+◌, ◌-◌, ◌*◌, ◌/◌, ◌≤◌, length, add-zero, arith}
+use Rattle.std.proofs.Common.{◌+◌, ◌-◌, ◌*◌, ◌/◌, ◌≤◌, length, add-zero, arith}
 use Rattle.runs.specs.Samples.{every_four, Summed}
 use Rattle.runs.proofs.Sums.{summed_at, summed_end, summed_pairs}
 use Rattle.runs.proofs.samples.sum_inside.Goals as goal
@@ -24,13 +24,13 @@ summed c =
     let g = every_four a.m.now a.from 4 in
     let p = summed_pairs a.m.now a.from h b.result.ticks b.result.bytes b.ensures.ticks b.ensures.bytes in
     elim c.if-n-eq1.branch [
-      then-n-eq1 w ↦
-        let x = w.near4-last in
-        let o = w.if-n-eq1.true in
-        rw w.last-is
-        (summed_end g (h + h + 1) a.n (s + x.result)
-        (summed_at a.m.now a.from 4 (h + h) s (a.from + 4 * (a.n - 1)) x.result p (omega (arith, o)) x.ensures (omega (arith, x.type_inv)))
-        (omega (arith, o)) (omega (arith, o)))
+      | then-n-eq1 w ↦
+          let x = w.near4-last in
+          let o = w.if-n-eq1.true in
+          rw w.last-is
+          (summed_end g (h + h + 1) a.n (s + x.result)
+          (summed_at a.m.now a.from 4 (h + h) s (a.from + 4 * (a.n - 1)) x.result p (omega (arith, o)) x.ensures (omega (arith, x.type_inv)))
+          (omega (arith, o)) (omega (arith, o)))
       | else-n-eq1 w ↦ rw (w.last-is, add-zero s) (summed_end g (h + h) a.n s p (omega arith) (omega (arith, w.if-n-eq1.false)))
     ]
 

@@ -1,6 +1,6 @@
 -- `runs::samples::words` meets its contract. The sum is that of the samples passed, and the place a step on for each of them. Assumes nothing.
-use Rattle.std.proofs.Common.{◌≡◌, ◌+◌, ◌-◌, ◌*◌, ◌≤◌, length, arith, rules}
-use Rattle.runs.specs.Samples.{every_four, Summed}
+use Rattle.std.proofs.Common.{length, arith}
+use Rattle.runs.specs.Samples.{every_four}
 use Rattle.runs.proofs.Sums.{step_inside, step_none, step_on_lem, summed_none, summed_at, summed_end}
 use Rattle.runs.proofs.samples.words.Goals as goal
 

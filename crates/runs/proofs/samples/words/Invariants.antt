@@ -1,5 +1,5 @@
 -- `runs::samples::words` meets its contract. The sum is that of the samples passed, and the place a step on for each of them. Assumes nothing.
-use Rattle.std.proofs.Common.{◌≡◌, ◌+◌, ◌-◌, ◌*◌, ◌≤◌, length, arith, rules}
+use Rattle.std.proofs.Common.{◌≡◌, ◌+◌, ◌-◌, ◌*◌, ◌≤◌}
 use Rattle.runs.specs.Samples.{every_four, Summed}
 use Rattle.runs.proofs.samples.words.Given as goal
 

@@ -1,5 +1,5 @@
 -- `runs::trun::read_trun` meets its contract. Assumes nothing.
-use Rattle.std.proofs.Common.{arith, rules}
+use Rattle.std.proofs.Common.{arith}
 use Rattle.runs.proofs.Formed.{run_short, run_told, run_other, own_fits, head_low}
 use Rattle.runs.proofs.trun.read_trun.Goals as goal
 

@@ -10,7 +10,7 @@ and_one-requires c = c.requires.head_bound.2
 pub overflow_add-result : goal.overflow_add-result
 overflow_add-result c = let p = c.requires in
     let k = rw c.in-Refused.is at c.check_chunk.ensures in
-    omega (arith, k.1, p.0.1, p.0.2)
+    omega (arith, k.1, p.whole_box.1, p.whole_box.2)
 
 pub returns-in-Good : goal.returns-in-Good
 returns-in-Good c = let a = c.args in

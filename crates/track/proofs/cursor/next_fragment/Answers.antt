@@ -1,11 +1,9 @@
 -- `track::cursor::next_fragment` meets its contract. Assumes nothing.
-use Prim.Native.Nat.{◌-◌}
 use mathlib.Core.Path.{refl}
 use native.Mathlib.Omega.{arith}
-use lib.ListN.{length}
 use Rattle.boxes.proofs.Stands.{stands_here}
 use Rattle.boxes.proofs.Walks.{over, found}
-use Rattle.track.proofs.Fragments.{Skipped, skipped_none, skipped_all, skipped_box, plain_sync, skipped_chunk, next_at}
+use Rattle.track.proofs.Fragments.{skipped_none, skipped_all, skipped_box, plain_sync, skipped_chunk, next_at}
 use Rattle.track.proofs.OwnBytes.{own_bytes, own_length, own_whole}
 use Rattle.track.proofs.cursor.next_fragment.Goals as goal
 

@@ -1,7 +1,7 @@
 -- `track::cursor::next_fragment` meets its contract. Assumes nothing.
 use Prim.Native.Nat.{◌-◌}
 use lib.ListN.{length}
-use Rattle.track.proofs.Fragments.{Skipped, skipped_none, skipped_all, skipped_box, plain_sync, skipped_chunk, next_at}
+use Rattle.track.proofs.Fragments.{Skipped}
 use Rattle.track.proofs.cursor.next_fragment.Given as goal
 
 abbrev pub invariant-loop-head : goal.invariant-loop-head
