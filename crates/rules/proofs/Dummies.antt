@@ -15,11 +15,12 @@ use Rattle.rules.specs.Track.{boundaries}
 use Rattle.rules.specs.Set.{track0}
 use Rattle.rules.specs.Player.{stuck, passed, play}
 use Rattle.rules.specs.Plans.{All, Over, Comparable, OneStuck, TicksDiffer, Player, ToldApart, HasFirstHalf, HasSecondHalf, HasStuckHalf}
-use Rattle.rules.specs.Sets.{t_accepted, t_fragments, single_accepted, shifted_accepted, single_alike, shifted_alike, set_of_t, set_27, set_28}
+use Rattle.rules.specs.Sets.{t_accepted, t_fragments, single_accepted, shifted_accepted, single_alike, shifted_alike, set_of_t}
 use Rattle.rules.proofs.Laws.{and_both}
 use Rattle.rules.proofs.Plays.{Passes, passed_same}
 use Rattle.rules.proofs.FirstHalf.{first_half}
 use Rattle.rules.proofs.SecondHalf.{stays, second_half, second_half_27}
+use Rattle.rules.proofs.Sets.{set_27, set_28}
 
 -- the player of the written rules has them all
 pub player_first : HasFirstHalf play

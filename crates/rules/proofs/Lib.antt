@@ -22,5 +22,6 @@ pub mod Plays
 pub mod FirstHalf
 pub mod Steps
 pub mod SecondHalf
+pub mod Sets
 pub mod Caller
 pub mod Dummies

@@ -1,5 +1,4 @@
--- Small sets, computed: T by itself is accepted; T beside a shorter track is refused under 27, beside itself a tick later under 28, though
--- the durations agree.
+-- Small sets, computed: T by itself is accepted, and so are a shorter track and T a tick later. What T is beside these stands in proofs/Sets.
 use Rattle.std.specs.Prelude.{◌≡◌, refl, [], ◌∷◌}
 use Rattle.rules.specs.Bytes.{single, shifted, track_t}
 use Rattle.rules.specs.Computed.{computed}
@@ -7,7 +6,7 @@ use Rattle.rules.specs.Track.{ruling, fragment_count, timescale}
 use Rattle.rules.specs.Rules.{◌then◌, of_track}
 use Rattle.rules.specs.Plans.{longest}
 use Rattle.rules.specs.Set.{handler, rulings, agree, set_ruling}
-use Rattle.rules.specs.declared.Rule.TheVariants.{Holds, Breaks}
+use Rattle.rules.specs.declared.Rule.TheVariants.{Holds}
 
 -- each of these tracks is accepted by itself
 pub t_accepted : ruling track_t ≡ Holds
@@ -39,23 +38,6 @@ t_fragments = refl
 pub set_of_t : set_ruling (track_t ∷ []) ≡ Holds
 unfolding set_ruling rulings agree of_track ◌then◌
 set_of_t = rw t_accepted
-
--- the two sets that are refused: what track 1 is beside T, and so of the set
-beside_27 : agree track_t 1 (single 0 108 30 ∷ []) ≡ Breaks 27 1 630
-unfolding computed single
-beside_27 = refl
-
-pub set_27 : set_ruling (track_t ∷ single 0 108 30 ∷ []) ≡ Breaks 27 1 630
-unfolding set_ruling rulings of_track ◌then◌
-set_27 = rw (t_accepted, single_accepted) beside_27
-
-beside_28 : agree track_t 1 (shifted ∷ []) ≡ Breaks 28 1 492
-unfolding computed shifted
-beside_28 = refl
-
-pub set_28 : set_ruling (track_t ∷ shifted ∷ []) ≡ Breaks 28 1 492
-unfolding set_ruling rulings of_track ◌then◌
-set_28 = rw (t_accepted, shifted_accepted) beside_28
 
 -- plans of T beside a shorter track are compared up to T's two fragments
 pub longest_of_two : longest (track_t ∷ single 0 108 30 ∷ []) ≡ 2
