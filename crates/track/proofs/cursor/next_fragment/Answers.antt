@@ -52,4 +52,4 @@ pub loop-head-smaller : goal.loop-head-smaller
 loop-head-smaller c = omega (arith, found _ _ c.look-l.ensures.value c.in-Good.is)
 
 pub loop-head-preserved : goal.loop-head-preserved
-loop-head-preserved c = skipped_box c.loop-head.invariant c.look-l.ensures.value c.in-Good.is c.if-kind-eq-MOOF.false
+loop-head-preserved c = skipped_box c.loop-head.invariant c.look-l.ensures.value c.in-Good.is search
