@@ -42,4 +42,4 @@ pub loop-next0-preserved : goal.loop-next0-preserved
 loop-next0-preserved c = beside_on _ _ c.loop-next0.invariant
     (rw c.in-At.is at c.next_fragment-c0.ensures)
     (rw c.in-At-c.is at c.next_fragment-c.ensures)
-    c.if-start-start0.false
+    search
