@@ -3,7 +3,7 @@ use Prim.Native.Nat.{◌+◌, ◌*◌, ◌-◌, ◌≤◌}
 use mathlib.Core.Path.{◌≡◌, refl}
 use native.Mathlib.Omega.{arith}
 use borrow.Author.Rules.{rules}
-use Rattle.lines.proofs.ticks_played.{TicksPut, none, next, up_to, every_tick}
+use Rattle.lines.proofs.Ticks.{TicksPut, none, next, up_to, every_tick}
 use Rattle.lines.proofs.tick_lines.Goals as goal
 
 pub loop-k-init : goal.loop-k-init

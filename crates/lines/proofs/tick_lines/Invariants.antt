@@ -2,7 +2,7 @@
 use Prim.Native.Nat.{◌+◌, ◌*◌, ◌-◌, ◌≤◌}
 use mathlib.Core.Path.{◌≡◌, refl}
 use lib.ListN.{length}
-use Rattle.lines.proofs.ticks_played.{TicksPut, none, next, up_to, every_tick}
+use Rattle.lines.proofs.Ticks.{TicksPut, none, next, up_to, every_tick}
 use Rattle.lines.proofs.tick_lines.Given as goal
 
 abbrev pub invariant-loop-k : goal.invariant-loop-k
