@@ -33,12 +33,15 @@ fn read_all(stdin: &mut impl Read, buf: &mut [u8]) -> Input
     Input::Held(done)
 }
 
-// Writes a text to standard output: nothing but the answer to the input.
+// Writes a text to standard output: nothing but the answer to the input. Says why where it can't, but of a reader
+// that has left nothing.
 fn show(rt: &(impl Print + Eprint), input: &[u8], text: &[u8])
     requires { text.now ≡ printed input.now }
 {
     if let Err(e) = rt.write_all(text) {
-        let _ = eprintln!(rt; "standard output: {e}");
+        if e.kind() != io::ErrorKind::BrokenPipe {
+            let _ = eprintln!(rt; "standard output: {e}");
+        }
     }
 }
 

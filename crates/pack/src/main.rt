@@ -147,6 +147,13 @@ fn least(a: u64, b: usize) -> usize
     if a < b as u64 { a as usize } else { b }
 }
 
+// Says why standard output can't be written; of a reader that has left nothing.
+fn say_unwritten(rt: &impl Eprint, e: io::Error) {
+    if e.kind() != io::ErrorKind::BrokenPipe {
+        let _ = eprintln!(rt; "standard output: {e}");
+    }
+}
+
 // Reads once into a buffer and writes what came; answers how many bytes, 0 where none came or were written.
 fn pass(rt: &(impl Print + Eprint), mut file: &fs::File, buf: &mut [u8]) -> usize
     ensures { result ≤ length buf.old }
@@ -163,7 +170,7 @@ fn pass(rt: &(impl Print + Eprint), mut file: &fs::File, buf: &mut [u8]) -> usiz
         return 0;
     }
     if let Err(e) = rt.write_all(&buf[..n]) {
-        let _ = eprintln!(rt; "standard output: {e}");
+        say_unwritten(rt, e);
         return 0;
     }
     n
@@ -208,7 +215,7 @@ fn put_head(rt: &(impl Print + Eprint), six: &[u8; 6], sizes: &[u32], k: usize, 
     ensures { WritesTo result (at + 6) }
 {
     if let Err(e) = rt.write_all(six) {
-        let _ = eprintln!(rt; "standard output: {e}");
+        say_unwritten(rt, e);
         return Place::Stopped;
     }
     Place::At(at + 6)

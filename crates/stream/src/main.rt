@@ -36,7 +36,8 @@ fn feed_all(
     Ok(())
 }
 
-// Writes a text to standard output: nothing but the lines of what is answered after the lent memory.
+// Writes a text to standard output: nothing but the lines of what is answered after the lent memory. Says why where it can't, but of a reader
+// that has left nothing.
 fn show_lines(
     rt: &(impl Print + Eprint),
     numbers: &[u64; NUMBERS],
@@ -47,7 +48,9 @@ fn show_lines(
     requires { text.now ≡ answer_lines (resume (memory numbers.now head.now kept.now) []) }
 {
     if let Err(e) = rt.write_all(text) {
-        let _ = eprintln!(rt; "standard output: {e}");
+        if e.kind() != io::ErrorKind::BrokenPipe {
+            let _ = eprintln!(rt; "standard output: {e}");
+        }
     }
 }
 
