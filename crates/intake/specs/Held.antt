@@ -6,4 +6,4 @@ use Rattle.intake.specs.declared.Input.TheVariants.{Held, Unread}
 -- the bytes held lie within the buffer
 abbrev pub HeldWithin : Input → List ℕ → Type 0
 HeldWithin (Held n) xs = (n ≤ length xs) × (n ≡ length (take n xs))
-HeldWithin Unread xs = Unit {0}
+HeldWithin (Unread e) xs = Unit {0}

@@ -4,8 +4,8 @@ use mathlib.Core.Path.{◌≡◌, subst}
 use mathlib.Core.Bool.{Bool, true}
 use mathlib.Core.List.{List}
 use native.Mathlib.Omega.{arith}
-use lib.IntN.{ℤ}
 use lib.ListN.{take}
+use Rattle.std.specs.declared.fs.File.{File as Opened}
 use Rattle.bundle.specs.Front.{bundle_length}
 use Rattle.pack.specs.declared.Size.{Size}
 use Rattle.pack.specs.declared.Size.TheVariants.{Bytes}
@@ -18,7 +18,7 @@ use Rattle.pack.specs.Sizes.{WithinLimit, Readied, AllFit, WritesTo, Packed}
 pub within_limit : (from : ℕ) {r : Size} {n : ℕ} → r ≡ Bytes n → WithinLimit r from → from + n ≤ 1073741824
 within_limit from e h = subst (λ (s : Size). WithinLimit s from) e h
 
-pub readied : (from : ℕ) {r : File} {fd : ℤ} {n : ℕ} → r ≡ Ready fd n → Readied r from → from + n ≤ 1073741824
+pub readied : (from : ℕ) {r : File} {file : Opened} {n : ℕ} → r ≡ Ready file n → Readied r from → from + n ≤ 1073741824
 readied from e h = subst (λ (f : File). Readied f from) e h
 
 pub reached : (n : ℕ) {r : Place} {end : ℕ} → r ≡ At end → WritesTo r n → end ≡ n

@@ -13,11 +13,11 @@ use Rattle.pack.specs.declared.Place.TheVariants.{At, Stopped}
 abbrev pub WithinLimit : Size → ℕ → Type 0
 WithinLimit (Bytes n) from = from + n ≤ byte_limit
 WithinLimit TooLong from = Unit {0}
-WithinLimit Unread from = Unit {0}
+WithinLimit (Unread e) from = Unit {0}
 
 -- and so is one that was made ready
 abbrev pub Readied : File → ℕ → Type 0
-Readied (Ready fd n) from = from + n ≤ byte_limit
+Readied (Ready file n) from = from + n ≤ byte_limit
 Readied Refused from = Unit {0}
 
 -- where all files are ready, the bundle of the first so many sizes is within the limit

@@ -10,23 +10,26 @@ ghost use Rattle.rules.specs.Limits.{byte_limit};
 ghost use Rattle.bundle.specs.Front.{front_of, bundle_length};
 ghost use Rattle.pack.specs.Sizes.{WithinLimit, Readied, AllFit, WritesTo, Packed};
 
-use libc::{SEEK_SET, STDERR_FILENO, STDOUT_FILENO};
+use std::env::{Env, FillError};
+use std::io::{Read, Seek};
+use std::rt::Files;
+use std::{fs, io, str};
 
 // The bytes that a bundle may have.
 const LIMIT: u64 = 1073741824;
 
-// What counting a file found: its bytes, that the bundle would be too long, or that it can't be read.
+// What counting a file found: its bytes, that the bundle would be too long, or that it can't be read, and why.
 #[derive(Clone, Copy)]
 enum Size {
     Bytes(u64),
     TooLong,
-    Unread,
+    Unread(io::Error),
 }
 
-// A file made ready: its descriptor, at its start, and its bytes.
-#[derive(Clone, Copy)]
+// A file made ready: open, at its start, and its bytes.
+#[derive(Drop)]
 enum File {
-    Ready(i32, u32),
+    Ready(fs::File, u32),
     Refused,
 }
 
@@ -38,17 +41,16 @@ enum Place {
 }
 
 // Counts the bytes of a file that begins at a place of the bundle.
-fn count_bytes(fd: i32, from: u64, buf: &mut [u8]) -> Size
+fn count_bytes(file: &mut impl Read, from: u64, buf: &mut [u8]) -> Size
     requires { from ≤ byte_limit + 6 }
     ensures { WithinLimit result from }
 {
     let mut end = from;
     while end <= LIMIT {
-        let got = libc::read(fd, buf);
-        if got < 0 {
-            return Size::Unread;
-        }
-        let n = io::count(got, buf);
+        let n = match file.read(buf) {
+            Ok(n) => n,
+            Err(e) => return Size::Unread(e),
+        };
         if n == 0 {
             return Size::Bytes(end - from);
         }
@@ -58,66 +60,76 @@ fn count_bytes(fd: i32, from: u64, buf: &mut [u8]) -> Size
 }
 
 // Counts the bytes of an open file of that name and goes back to its start; says why where it can't.
-fn ready(fd: i32, path: &[u8], from: u64, buf: &mut [u8]) -> File
+fn ready(rt: &impl Eprint, mut file: fs::File, path: &str, from: u64, buf: &mut [u8]) -> File
     requires { from ≤ byte_limit + 6 }
     ensures { Readied result from }
 {
-    let size = count_bytes(fd, from, buf);
-    match size {
+    match count_bytes(&mut file, from, buf) {
         Size::Bytes(n) => {
-            if libc::lseek(fd, 0, SEEK_SET) != 0 {
-                os::fail(path);
+            if let Err(e) = file.rewind() {
+                let _ = eprintln!(rt; "{path}: {e}");
                 return File::Refused;
             }
-            File::Ready(fd, n as u32)
+            File::Ready(file, n as u32)
         }
         Size::TooLong => {
-            io::write_all(STDERR_FILENO, path);
-            io::write_all(
-                STDERR_FILENO,
-                b": the bundle would be over 1073741824 bytes\n",
-            );
+            let _ = eprintln!(rt; "{path}: the bundle would be over 1073741824 bytes");
             File::Refused
         }
-        Size::Unread => {
-            os::fail(path);
+        Size::Unread(e) => {
+            let _ = eprintln!(rt; "{path}: {e}");
             File::Refused
         }
     }
 }
 
 // Makes the file that argument i names ready for a place of the bundle; says why where it can't.
-fn prepare(i: usize, from: u64, buf: &mut [u8]) -> File
+fn prepare(
+    rt: &(impl Env + Files<File = fs::File> + Eprint),
+    i: usize,
+    from: u64,
+    buf: &mut [u8],
+) -> File
     requires { from ≤ byte_limit + 6 }
     ensures { Readied result from }
 {
-    let mut path = io::buffer();
-    let n = os::arg(i, &mut path);
-    if os::errno() != 0 {
-        os::fail(b"file name");
+    let mut name = [0u8; 4096];
+    let Ok(n) = rt.arg(i, &mut name) else {
+        let _ = eprintln!(rt; "file name {i}: it is not there or over 4096 bytes long");
         return File::Refused;
-    }
-    let fd = os::open_read(&path[..n]);
-    if fd < 0 {
-        os::fail(&path[..n]);
+    };
+    let Ok(path) = str::from_utf8(&name[..n]) else {
+        let _ = eprintln!(rt; "file name {i}: it is not UTF-8 text");
         return File::Refused;
+    };
+    match fs::File::open(rt, path) {
+        Ok(file) => ready(rt, file, path, from, buf),
+        Err(e) => {
+            let _ = eprintln!(rt; "{path}: {e}");
+            File::Refused
+        }
     }
-    ready(fd, &path[..n], from, buf)
 }
 
-// Makes the files of the arguments 1 to so many ready, with their descriptors and bytes; answers whether all are.
-fn open_all(files: usize, fds: &mut [i32], sizes: &mut [u32], buf: &mut [u8]) -> bool
-    requires { (files ≤ length fds.old) × (files ≤ length sizes.old) }
+// Makes the files of the arguments 1 to so many ready, with their bytes; answers whether all are.
+fn open_all(
+    rt: &(impl Env + Files<File = fs::File> + Eprint),
+    files: usize,
+    opened: &mut [Option<fs::File>],
+    sizes: &mut [u32],
+    buf: &mut [u8],
+) -> bool
+    requires { (files ≤ length opened.old) × (files ≤ length sizes.old) }
     ensures { AllFit result files sizes.new }
 {
     let mut end = 0;
     let mut k = 0;
     while k < files {
         let from = end + 6;
-        let File::Ready(fd, size) = prepare(k + 1, from, buf) else {
+        let File::Ready(file, size) = prepare(rt, k + 1, from, buf) else {
             return false;
         };
-        fds[k] = fd;
+        opened[k] = Some(file);
         sizes[k] = size;
         end = from + size as u64;
         k += 1;
@@ -132,47 +144,52 @@ fn least(a: u64, b: usize) -> usize
     if a < b as u64 { a as usize } else { b }
 }
 
+// Says why standard output can't be written; of a reader that has left nothing.
+fn say_unwritten(rt: &impl Eprint, e: io::Error) {
+    if e.kind() != io::ErrorKind::BrokenPipe {
+        let _ = eprintln!(rt; "standard output: {e}");
+    }
+}
+
 // Reads once into a buffer and writes what came; answers how many bytes, 0 where none came or were written.
-fn pass(fd: i32, buf: &mut [u8]) -> usize
+fn pass(rt: &(impl Print + Eprint), mut file: &fs::File, buf: &mut [u8]) -> usize
     ensures { result ≤ length buf.old }
 {
-    let got = libc::read(fd, buf);
-    if got < 0 {
-        os::fail(b"a file, read again");
-        return 0;
-    }
-    let n = io::count(got, buf);
+    let n = match file.read(buf) {
+        Ok(n) => n,
+        Err(e) => {
+            let _ = eprintln!(rt; "a file, read again: {e}");
+            return 0;
+        }
+    };
     if n == 0 {
-        io::write_all(
-            STDERR_FILENO,
-            b"a file became shorter: the bundle ends inside its record\n",
-        );
+        let _ = eprintln!(rt; "a file became shorter: the bundle ends inside its record");
         return 0;
     }
-    if !io::write_all(STDOUT_FILENO, &buf[..n]) {
-        os::fail(b"standard output");
+    if let Err(e) = rt.write_all(&buf[..n]) {
+        say_unwritten(rt, e);
         return 0;
     }
     n
 }
 
 // Passes on at most so many bytes; answers how many.
-fn pass_some(fd: i32, most: u64, buf: &mut [u8]) -> u64
+fn pass_some(rt: &(impl Print + Eprint), file: &fs::File, most: u64, buf: &mut [u8]) -> u64
     ensures { result ≤ most }
 {
     let k = least(most, buf.len());
-    pass(fd, &mut buf[..k]) as u64
+    pass(rt, file, &mut buf[..k]) as u64
 }
 
 // Copies so many bytes of a file to standard output, from a place of the bundle on; answers where that ends.
-fn copy(fd: i32, at: u64, size: u32, buf: &mut [u8]) -> Place
+fn copy(rt: &(impl Print + Eprint), file: &fs::File, at: u64, size: u32, buf: &mut [u8]) -> Place
     requires { at ≤ byte_limit + 6 }
     ensures { WritesTo result (at + size) }
 {
     let end = at + size as u64;
     let mut here = at;
     while here < end {
-        let n = pass_some(fd, end - here, buf);
+        let n = pass_some(rt, file, end - here, buf);
         if n == 0 {
             return Place::Stopped;
         }
@@ -190,38 +207,55 @@ fn head(sizes: &[u32], k: usize) -> [u8; 6]
 }
 
 // Writes six bytes at a place of the bundle, which have to be those in front of file k; answers where they end.
-fn put_head(six: &[u8; 6], sizes: &[u32], k: usize, at: u64) -> Place
+fn put_head(rt: &(impl Print + Eprint), six: &[u8; 6], sizes: &[u32], k: usize, at: u64) -> Place
     requires { (six.now ≡ front_of (get_or sizes.now k 0)) × (at ≡ bundle_length (take k sizes.now)) × (at ≤ byte_limit) }
     ensures { WritesTo result (at + 6) }
 {
-    if !io::write_all(STDOUT_FILENO, six) {
-        os::fail(b"standard output");
+    if let Err(e) = rt.write_all(six) {
+        say_unwritten(rt, e);
         return Place::Stopped;
     }
     Place::At(at + 6)
 }
 
 // Writes the record of file k at a place of the bundle; answers where it ends.
-fn write_record(fd: i32, sizes: &[u32], k: usize, at: u64, buf: &mut [u8]) -> Place
+fn write_record(
+    rt: &(impl Print + Eprint),
+    file: &fs::File,
+    sizes: &[u32],
+    k: usize,
+    at: u64,
+    buf: &mut [u8],
+) -> Place
     requires { (k < length sizes.now) × (at ≡ bundle_length (take k sizes.now)) × (at ≤ byte_limit) }
     ensures { WritesTo result (bundle_length (take (k + 1) sizes.now)) }
 {
     let six = head(sizes, k);
-    let Place::At(from) = put_head(&six, sizes, k, at) else {
+    let Place::At(from) = put_head(rt, &six, sizes, k, at) else {
         return Place::Stopped;
     };
-    copy(fd, from, sizes[k], buf)
+    copy(rt, file, from, sizes[k], buf)
 }
 
 // Writes the records of the first so many files, up to one that can't be written whole; answers where they end.
-fn write_records(files: usize, fds: &[i32], sizes: &[u32], buf: &mut [u8]) -> Place
-    requires { (files ≤ length fds.now) × (files ≤ length sizes.now) × (bundle_length (take files sizes.now) ≤ byte_limit) }
+fn write_records(
+    rt: &(impl Print + Eprint),
+    files: usize,
+    opened: &[Option<fs::File>],
+    sizes: &[u32],
+    buf: &mut [u8],
+) -> Place
+    requires { (files ≤ length opened.now) × (files ≤ length sizes.now) × (bundle_length (take files sizes.now) ≤ byte_limit) }
     ensures { WritesTo result (bundle_length (take files sizes.now)) }
 {
     let mut at = 0;
     let mut k = 0;
     while k < files {
-        let Place::At(end) = write_record(fds[k], sizes, k, at, buf) else {
+        let Some(file) = &opened[k] else {
+            let _ = eprintln!(rt; "a file, read again: it is not open");
+            return Place::Stopped;
+        };
+        let Place::At(end) = write_record(rt, file, sizes, k, at, buf) else {
             return Place::Stopped;
         };
         at = end;
@@ -231,29 +265,46 @@ fn write_records(files: usize, fds: &[i32], sizes: &[u32], buf: &mut [u8]) -> Pl
 }
 
 // Makes 1 to 16 files ready, then writes their records; answers the bytes of the bundle, where it is written whole.
-fn pack(files: usize, fds: &mut [i32], sizes: &mut [u32], buf: &mut [u8]) -> Place
-    requires { (files ≤ length fds.old) × (files ≤ length sizes.old) }
+fn pack(
+    rt: &(impl Env + Files<File = fs::File> + Print + Eprint),
+    files: usize,
+    opened: &mut [Option<fs::File>],
+    sizes: &mut [u32],
+    buf: &mut [u8],
+) -> Place
+    requires { (files ≤ length opened.old) × (files ≤ length sizes.old) }
     ensures { Packed result files sizes.new }
 {
-    if open_all(files, fds, sizes, buf) {
-        write_records(files, fds, sizes, buf)
+    if open_all(rt, files, opened, sizes, buf) {
+        write_records(rt, files, opened, sizes, buf)
     } else {
         Place::Stopped
     }
 }
 
-fn main() {
-    let words = os::arg_count();
+// How many arguments there are, the program's name among them, or one more than there may be.
+fn count_words(rt: &impl Env) -> usize {
+    let mut start = [0u8; 1];
+    for i in 0..18 {
+        if let Err(FillError::NotPresent) = rt.arg(i, &mut start) {
+            return i;
+        }
+    }
+    18
+}
+
+fn main(rt: HostRuntime) {
+    let words = count_words(&rt);
     if words < 2 {
-        io::write_all(STDERR_FILENO, b"pack: name 1 to 16 files\n");
+        let _ = eprintln!(rt; "pack: name 1 to 16 files");
         return;
     }
     if 17 < words {
-        io::write_all(STDERR_FILENO, b"pack: name 1 to 16 files, no more\n");
+        let _ = eprintln!(rt; "pack: name 1 to 16 files, no more");
         return;
     }
-    let mut fds = [0i32; 16];
+    let mut opened = [const { None }; 16];
     let mut sizes = [0u32; 16];
     let mut buf = [0u8; 65536];
-    pack(words - 1, &mut fds, &mut sizes, &mut buf);
+    pack(&rt, words - 1, &mut opened, &mut sizes, &mut buf);
 }

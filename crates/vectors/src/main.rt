@@ -10,12 +10,12 @@ ghost use Rattle.std.specs.Prelude.{◌≡◌, length};
 ghost use Rattle.vectors.specs.Tables.{FilledTo, sum_of};
 
 use framing::BOX_LIMIT;
-use libc::{STDIN_FILENO, STDOUT_FILENO};
 use lines::ANSWER_ROOM;
 use pieces::state::NUMBERS;
 use pieces::{GATHER_LIMIT, HEAD};
 use printed::{INPUT_LIMIT, TEXT_ROOM};
 use rules::Verdict;
+use std::io::Read;
 
 // Fills a table with i * 7 + 1 at each i.
 fn fill(t: &mut [u64])
@@ -53,10 +53,10 @@ fn run_job(job: u8, s: &[u8], t: &mut [u64]) -> Verdict {
 }
 
 // Prints what the program `intake` prints.
-fn print_text(s: &[u8]) {
+fn print_text(rt: &impl Print, s: &[u8]) {
     let mut text = [0u8; TEXT_ROOM];
     let n = printed::answer(s, &mut text);
-    io::write_all(STDOUT_FILENO, &text[..n]);
+    let _ = rt.write_all(&text[..n]);
 }
 
 // Feeds a track in pieces of so many bytes, the last one shorter, or in one piece for 0.
@@ -80,7 +80,7 @@ fn feed_cut(
 }
 
 // Prints what the program `stream` prints for a track that comes in pieces of so many bytes, or in one piece for 0.
-fn print_answer(s: &[u8], cut: usize) {
+fn print_answer(rt: &impl Print, s: &[u8], cut: usize) {
     let mut numbers = [0u64; NUMBERS];
     let mut head = [0u8; HEAD];
     let mut kept = [0u8; GATHER_LIMIT];
@@ -88,32 +88,32 @@ fn print_answer(s: &[u8], cut: usize) {
     feed_cut(&mut numbers, &mut head, &mut kept, s, cut);
     let mut text = [0u8; ANSWER_ROOM];
     let n = lines::answer_lines(pieces::finish(&numbers, &head, &kept), &mut text);
-    io::write_all(STDOUT_FILENO, &text[..n]);
+    let _ = rt.write_all(&text[..n]);
 }
 
 // Runs a case with a table and prints its line, or its text.
-fn print_case(job: u8, s: &[u8], t: &mut [u64]) {
+fn print_case(rt: &impl Print, job: u8, s: &[u8], t: &mut [u64]) {
     if job == 3 {
-        print_text(s);
+        print_text(rt, s);
         return;
     }
     fill(t);
     let v = run_job(job, s, t);
     let mut line = [0u8; 160];
     let n = lines::case_line(job as u64, v, sum_of(t), &mut line);
-    io::write_all(STDOUT_FILENO, &line[..n]);
+    let _ = rt.write_all(&line[..n]);
 }
 
 // Runs a case and prints what it comes to; answers whether the table has its room.
-fn run_case(job: u8, room: usize, s: &[u8], table: &mut [u64]) -> bool {
+fn run_case(rt: &impl Print, job: u8, room: usize, s: &[u8], table: &mut [u64]) -> bool {
     if job == 4 {
-        print_answer(s, room);
+        print_answer(rt, s, room);
         return true;
     }
     if table.len() < room {
         return false;
     }
-    print_case(job, s, &mut table[..room]);
+    print_case(rt, job, s, &mut table[..room]);
     true
 }
 
@@ -143,9 +143,15 @@ fn put_boxes(bytes: &mut [u8], n: usize, boxes: usize) -> Left {
 }
 
 // Reads a case behind the bytes that are held, and prints what it comes to.
-fn next_case(bytes: &mut [u8], held: usize, table: &mut [u64]) -> Left {
+fn next_case(
+    rt: &impl Print,
+    stdin: &mut impl Read,
+    bytes: &mut [u8],
+    held: usize,
+    table: &mut [u64],
+) -> Left {
     let mut head = [0u8; 9];
-    if io::read_full(STDIN_FILENO, &mut head) < 9 {
+    if stdin.read_exact(&mut head).is_err() {
         return Left::NoCase;
     }
     let room = numbers::be4(&head, 1) as usize;
@@ -157,13 +163,13 @@ fn next_case(bytes: &mut [u8], held: usize, table: &mut [u64]) -> Left {
         return Left::NoCase;
     }
     let end = held + size;
-    if io::read_full(STDIN_FILENO, &mut bytes[held..end]) < size {
+    if stdin.read_exact(&mut bytes[held..end]).is_err() {
         return Left::NoCase;
     }
     if head[0] == 5 {
         return put_boxes(bytes, end, room);
     }
-    if !run_case(head[0], room, &bytes[..end], table) {
+    if !run_case(rt, head[0], room, &bytes[..end], table) {
         return Left::NoCase;
     }
     Left::Held(0)
@@ -171,11 +177,11 @@ fn next_case(bytes: &mut [u8], held: usize, table: &mut [u64]) -> Left {
 
 // Runs every case to the end of the input. A proved loop has to end, and nothing says that an input does: the loop counts
 // its turns down, from a number that no run uses up.
-fn run_cases(bytes: &mut [u8], table: &mut [u64]) {
+fn run_cases(rt: &impl Print, stdin: &mut impl Read, bytes: &mut [u8], table: &mut [u64]) {
     let mut held = 0;
     let mut turns = u64::MAX;
     while turns > 0 {
-        let Left::Held(n) = next_case(bytes, held, table) else {
+        let Left::Held(n) = next_case(rt, stdin, bytes, held, table) else {
             return;
         };
         held = n;
@@ -185,8 +191,13 @@ fn run_cases(bytes: &mut [u8], table: &mut [u64]) {
 
 // The bytes hold what `intake` takes and a byte more, beside as many empty boxes as rule 5 allows; the table holds the index of
 // as many boxes.
-fn main() {
+fn main(rt: HostRuntime) {
     let mut bytes = [0u8; INPUT_LIMIT + 1 + BOX_LIMIT * 8];
     let mut table = [0u64; BOX_LIMIT * 4];
-    run_cases(&mut bytes, &mut table);
+    run_cases(
+        &rt,
+        &mut rt.stdin(),
+        bytes.as_mut_slice(),
+        table.as_mut_slice(),
+    );
 }
