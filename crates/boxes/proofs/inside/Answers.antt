@@ -1,13 +1,7 @@
 use borrow.Author.Rules.{rules}
-use borrow.Author.Rules.{rules}
-use borrow.Author.Rules.{rules}
-use borrow.Author.Rules.{rules}
-use borrow.Author.Rules.{rules}
-use borrow.Author.Rules.{rules}
 use mathlib.Core.Path.{refl}
 use Rattle.rules.specs.Boxes.{inside}
 use Rattle.boxes.proofs.Containers.{same_inside}
-use borrow.Author.Rules.{rules}
 use Rattle.boxes.proofs.inside.Goals as goal
 
 pub returns-in-1836019574 : goal.returns-in-1836019574
