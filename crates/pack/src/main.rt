@@ -5,7 +5,9 @@
 // bundle ends inside its record, which a check refuses with 24, and there is a line on standard error.
 #![tactic(auto)]
 
-ghost use Rattle.std.specs.Prelude.{◌+◌, ◌≤◌, ◌<◌, ◌≡◌, length, take, get_or};
+ghost use Rattle.std.specs.Prelude.{◌+◌, ◌≤◌, ◌<◌, ◌≡◌, length, take, get_or, IsSome};
+ghost use Rattle.std.specs.Bool.{OnTrue};
+ghost use Rattle.std.specs.List.{AllWithin};
 ghost use Rattle.rules.specs.Limits.{byte_limit};
 ghost use Rattle.bundle.specs.Front.{front_of, bundle_length};
 ghost use Rattle.pack.specs.Sizes.{WithinLimit, Readied, AllFit, WritesTo, Packed};
@@ -120,7 +122,8 @@ fn open_all(
     buf: &mut [u8],
 ) -> bool
     requires { (files ≤ length opened.old) × (files ≤ length sizes.old) }
-    ensures { AllFit result files sizes.new }
+    ensures fit { AllFit result files sizes.new }
+    ensures open { OnTrue result (AllWithin IsSome opened.new 0 files) }
 {
     let mut end = 0;
     let mut k = 0;
@@ -237,7 +240,7 @@ fn write_record(
     copy(rt, file, from, sizes[k], buf)
 }
 
-// Writes the records of the first so many files, up to one that can't be written whole; answers where they end.
+// Writes the records of the first so many files, up to one that can't be written whole; answers where they end. Behind `open_all` each is open.
 fn write_records(
     rt: &(impl Print + Eprint),
     files: usize,
