@@ -19,8 +19,7 @@ use Rattle.rules.specs.declared.Seen.{Seen}
 use Rattle.rules.specs.declared.Seen.TheVariants.{Never, Once, Twice}
 use Rattle.rules.specs.declared.Stage.{Stage}
 use Rattle.rules.specs.declared.Stage.TheVariants.{Start, Typed, Headed, Halved, Paired}
-use Rattle.rules.specs.declared.Stepped.{Stepped}
-use Rattle.rules.specs.declared.Stepped.TheVariants.{To, Wrong}
+use Rattle.std.specs.Prelude.{Option, None, Some}
 use Rattle.rules.proofs.Forest.{FoundBox}
 use Rattle.rules.proofs.Walk.{Siblings, boxes_siblings}
 use Rattle.rules.proofs.FirstSeen.{First, first_stays, first_at_lem}
@@ -58,20 +57,20 @@ PastHeader Headed = Unit {0}
 PastHeader Halved = Unit {0}
 PastHeader Paired = Unit {0}
 
-abbrev StepsPastHeader : Stepped → Type 0
-StepsPastHeader (To g) = PastHeader g
-StepsPastHeader Wrong = ⊥
+abbrev StepsPastHeader : Option Stage → Type 0
+StepsPastHeader (Some g) = PastHeader g
+StepsPastHeader None = ⊥
 
 -- a box that is no `moov` leads to no such stage but from one
-past_already : (g : Stage) (k : ℕ) (h : Stage) → eqb k moov ≡ false → step6 g k ≡ To h → PastHeader h → PastHeader g
+past_already : (g : Stage) (k : ℕ) (h : Stage) → eqb k moov ≡ false → step6 g k ≡ Some h → PastHeader h → PastHeader g
 unfolding step6 awaits
 past_already g k h n q y = go g (subst StepsPastHeader (sym q) y)
   where
-    first : (t : Bool) → StepsPastHeader (when t (To Typed) Wrong) → ⊥
+    first : (t : Bool) → StepsPastHeader (when t (Some Typed) None) → ⊥
     first true p = p
     first false p = p
 
-    second : (t u : Bool) → t ≡ false → StepsPastHeader (when t (To Headed) (when u Wrong (To Typed))) → ⊥
+    second : (t u : Bool) → t ≡ false → StepsPastHeader (when t (Some Headed) (when u None (Some Typed))) → ⊥
     second true u e p = absurd (true≢false e)
     second false true e p = p
     second false false e p = p
@@ -85,7 +84,7 @@ past_already g k h n q y = go g (subst StepsPastHeader (sym q) y)
 
 -- boxes that lead past the header show a `moov`, first at one of their places
 header_seen : (P : ℕ → Type 0) (v : Seen) (g h : Stage) (xs : List Box) → FirstIf P v → (PastHeader g → First P v)
-    → All (λ x. P x.at) xs → stage_from g xs ≡ To h → PastHeader h → First P (seen_from v (One moov) xs)
+    → All (λ x. P x.at) xs → stage_from g xs ≡ Some h → PastHeader h → First P (seen_from v (One moov) xs)
 unfolding stage_from seen_from wanted
 header_seen P v g h [] f s a e y = s (subst StepsPastHeader (sym e) y)
 header_seen P v g h (x ∷ xs) f s a e y =
@@ -105,21 +104,21 @@ header_seen P v g h (x ∷ xs) f s a e y =
     maybe (Once c) i = i
     maybe (Twice c d) i = i
 
-    go : (p : Stepped) → step6 g x.kind ≡ p → on_stepped p (λ k. stage_from k xs) Wrong ≡ To h → (t : Bool) → eqb x.kind moov ≡ t
-        → ((w : Seen) (k : Stage) → FirstIf P w → (PastHeader k → First P w) → stage_from k xs ≡ To h → First P (seen_from w (One moov) xs))
+    go : (p : Option Stage) → step6 g x.kind ≡ p → on_stepped p (λ k. stage_from k xs) None ≡ Some h → (t : Bool) → eqb x.kind moov ≡ t
+        → ((w : Seen) (k : Stage) → FirstIf P w → (PastHeader k → First P w) → stage_from k xs ≡ Some h → First P (seen_from w (One moov) xs))
         → goal t
-    go Wrong u q t n r = absurd (subst LeadsOn (sym q) tt)
-    go (To k) u q true n r = r (again x.at v) k (maybe (again x.at v) (sighted v f)) (λ _. sighted v f) q
-    go (To k) u q false n r = r v k f (λ z. s (past_already g x.kind k n u z)) q
+    go None u q t n r = absurd (subst LeadsOn (sym q) tt)
+    go (Some k) u q true n r = r (again x.at v) k (maybe (again x.at v) (sighted v f)) (λ _. sighted v f) q
+    go (Some k) u q false n r = r v k f (λ z. s (past_already g x.kind k n u z)) q
 
 -- the first box of boxes that lead past the header stands where they begin
-first_box : (s : List ℕ) (at : ℕ) (h : Stage) (xs : List Box) → Siblings s at xs → stage_from Start xs ≡ To h → PastHeader h → BoxAt s at
+first_box : (s : List ℕ) (at : ℕ) (h : Stage) (xs : List Box) → Siblings s at xs → stage_from Start xs ≡ Some h → PastHeader h → BoxAt s at
 unfolding stage_from
 first_box s at h [] y e p = absurd (subst StepsPastHeader (sym e) p)
 first_box s at h (x ∷ xs) y e p = (x.inner, x.size, x.kind, y.1)
 
 -- a front that leads past the header: where `moov` stands, and the header's bytes, are the front's
-module _ (a b : List ℕ) (c : EndsOnBox a) (g : Stage) (e : stage_led a ≡ To g) (y : PastHeader g) where
+module _ (a b : List ℕ) (c : EndsOnBox a) (g : Stage) (e : stage_led a ≡ Some g) (y : PastHeader g) where
   same_first : First (λ p. (first_of 0 (seen (One moov) (boxes a 0)) ≡ p) × BoxAt a p) (seen (One moov) (boxes a 0))
   same_first =
       tell (seen (One moov) (boxes a 0)) refl

@@ -5,7 +5,7 @@ use mathlib.Core.List.{List, [], ◌∷◌, ◌++◌, map, append_assoc, map-app
 use Prim.Native.Nat.{ℕ, ◌+◌, ◌≤◌}
 use lib.ListN.{length, length-map}
 use Rattle.numbers.specs.Numbers.{when}
-use Rattle.rules.specs.Rules.{◌then◌, moved}
+use Rattle.rules.specs.Rules.{◌then◌, moved, Rule}
 use Rattle.rules.specs.Boxes.{boxes, forest}
 use Rattle.rules.specs.Framing.{framing, framing_rule, framed}
 use Rattle.rules.specs.Order.{on_stepped, order_from, rule6}
@@ -13,15 +13,9 @@ use Rattle.rules.specs.Track.{rule1, header_of, chunks, timescale, start_at, end
 use Rattle.rules.specs.Track.{Fragment, continuing, begun_among, in_fragments, fragments, first_moofs, fragment_count}
 use Rattle.rules.specs.Plans.{All}
 use Rattle.rules.specs.declared.Path.TheVariants.{Top}
-use Rattle.rules.specs.declared.Framing.TheVariants.{Framed}
-use Rattle.rules.specs.declared.Previous.{Previous}
-use Rattle.rules.specs.declared.Previous.TheVariants.{Unset, End}
+use Rattle.std.specs.Prelude.{Option, None, Some, Ok}
 use Rattle.rules.specs.declared.Stage.{Stage}
 use Rattle.rules.specs.declared.Stage.TheVariants.{Start, Paired}
-use Rattle.rules.specs.declared.Stepped.{Stepped}
-use Rattle.rules.specs.declared.Stepped.TheVariants.{To}
-use Rattle.rules.specs.declared.Rule.{Rule}
-use Rattle.rules.specs.declared.Rule.TheVariants.{Holds}
 use Rattle.rules.specs.declared.Header.{Header}
 use Rattle.rules.proofs.Then.{then_holds, moved_then}
 use Rattle.rules.proofs.Fragments.{fragments_append, fragments_append_length, alike_begun, alike_fragments, begin_moved}
@@ -49,25 +43,25 @@ all_moofs P sync [] f = tt
 all_moofs P sync (x ∷ xs) f = (f.0, all_begun P sync xs f.1)
 
 -- the boundaries that chunks behind others add, after an end: each start of a fragment that begins among them, and the last end
-abbrev pub ticks_behind : List ℕ → Header → Previous → List ℕ → List ℕ
+abbrev pub ticks_behind : List ℕ → Header → Option ℕ → List ℕ → List ℕ
 ticks_behind s h prev xs = map (start_at s) (first_moofs (begun_among (sync_at s h) xs)) ++ end_list (last_end s h prev xs)
 
 -- the last end of chunks and of others behind them
-ends_joined : (s : List ℕ) (h : Header) (prev : Previous) (xs ys : List ℕ) → last_end s h prev (xs ++ ys) ≡ last_end s h (last_end s h prev xs) ys
+ends_joined : (s : List ℕ) (h : Header) (prev : Option ℕ) (xs ys : List ℕ) → last_end s h prev (xs ++ ys) ≡ last_end s h (last_end s h prev xs) ys
 unfolding last_end
 ends_joined s h prev [] ys = refl
-ends_joined s h prev (x ∷ xs) ys = ends_joined s h (End (end_at s h x)) xs ys
+ends_joined s h prev (x ∷ xs) ys = ends_joined s h (Some (end_at s h x)) xs ys
 
 -- the boundaries of chunks and others behind them: the starts of the first ones' fragments, then what the others add
 pub ticks_joined : (s : List ℕ) (h : Header) (xs ys : List ℕ) → 1 ≤ length xs
-    → ticks s h (xs ++ ys) ≡ map (start_at s) (first_moofs (in_fragments (sync_at s h) xs)) ++ ticks_behind s h (last_end s h Unset xs) ys
+    → ticks s h (xs ++ ys) ≡ map (start_at s) (first_moofs (in_fragments (sync_at s h) xs)) ++ ticks_behind s h (last_end s h None xs) ys
 unfolding ticks
 ticks_joined s h xs ys l =
     let first = first_moofs (in_fragments (sync_at s h) xs) in
     let more = first_moofs (begun_among (sync_at s h) ys) in
-    ap₂ {C = List ℕ} (λ (ms : List ℕ) (e : Previous). map (start_at s) ms ++ end_list e) (fragments_append (sync_at s h) xs ys l) (ends_joined s h Unset xs ys)
-    ∙ ap (λ (ms : List ℕ). ms ++ end_list (last_end s h (last_end s h Unset xs) ys)) (map-append (start_at s) first more)
-    ∙ append_assoc (map (start_at s) first) (map (start_at s) more) (end_list (last_end s h (last_end s h Unset xs) ys))
+    ap₂ {C = List ℕ} (λ (ms : List ℕ) (e : Option ℕ). map (start_at s) ms ++ end_list e) (fragments_append (sync_at s h) xs ys l) (ends_joined s h None xs ys)
+    ∙ ap (λ (ms : List ℕ). ms ++ end_list (last_end s h (last_end s h None xs) ys)) (map-append (start_at s) first more)
+    ∙ append_assoc (map (start_at s) first) (map (start_at s) more) (end_list (last_end s h (last_end s h None xs) ys))
 
 module _ (a b : List ℕ) where
   -- the starts of the front's chunks
@@ -79,11 +73,11 @@ module _ (a b : List ℕ) where
   starts_behind [] = refl
   starts_behind (x ∷ xs) = ap₂ {C = List ℕ} (λ (t : ℕ) (l : List ℕ). t ∷ l) (start_behind a b x) (starts_behind xs)
 
-  last_behind : (h : Header) (prev : Previous) (xs : List ℕ) → last_end (a ++ b) h prev (map (λ x. length a + x) xs) ≡ last_end b h prev xs
+  last_behind : (h : Header) (prev : Option ℕ) (xs : List ℕ) → last_end (a ++ b) h prev (map (λ x. length a + x) xs) ≡ last_end b h prev xs
   unfolding last_end
   last_behind h prev [] = refl
   last_behind h prev (x ∷ xs) =
-      ap (λ (e : ℕ). last_end (a ++ b) h (End e) (map (λ x. length a + x) xs)) (end_behind a b h x) ∙ last_behind h (End (end_at b h x)) xs
+      ap (λ (e : ℕ). last_end (a ++ b) h (Some e) (map (λ x. length a + x) xs)) (end_behind a b h x) ∙ last_behind h (Some (end_at b h x)) xs
 
   -- the rest's chunks begin the fragments that they begin by themselves
   sync_all : (h : Header) (xs : List ℕ) → All (λ x. sync_at (a ++ b) h (length a + x) ≡ sync_at b h x) xs
@@ -93,9 +87,9 @@ module _ (a b : List ℕ) where
   begin_behind : (h : Header) (xs : List ℕ) → begun_among (λ x. sync_at (a ++ b) h (length a + x)) xs ≡ begun_among (sync_at b h) xs
   begin_behind h xs = alike_begun (λ x. sync_at (a ++ b) h (length a + x)) (sync_at b h) xs (sync_all h xs)
 
-  pub ticks_behind_lem : (h : Header) (prev : Previous) (xs : List ℕ) → ticks_behind (a ++ b) h prev (map (λ x. length a + x) xs) ≡ ticks_behind b h prev xs
+  pub ticks_behind_lem : (h : Header) (prev : Option ℕ) (xs : List ℕ) → ticks_behind (a ++ b) h prev (map (λ x. length a + x) xs) ≡ ticks_behind b h prev xs
   ticks_behind_lem h prev xs =
-      ap₂ {C = List ℕ} (λ (l : List ℕ) (e : Previous). l ++ end_list e)
+      ap₂ {C = List ℕ} (λ (l : List ℕ) (e : Option ℕ). l ++ end_list e)
       (ap (map (start_at (a ++ b))) (begin_moved (sync_at (a ++ b) h) (λ x. length a + x) xs)
       ∙ starts_behind (first_moofs (begun_among (λ x. sync_at (a ++ b) h (length a + x)) xs))
       ∙ ap (λ (fs : List Fragment). map (start_at b) (first_moofs fs)) (begin_behind h xs))
@@ -110,7 +104,7 @@ module _ (a b : List ℕ) where
   fragments_front h xs f = alike_fragments (sync_at (a ++ b) h) (sync_at a h) xs (sync_fronts h xs f)
 
   -- a front that ends on a box, has the header behind it and every chunk with its data box
-  module _ (c : EndsOnBox a) (g : Stage) (e : stage_led a ≡ To g) (past : PastHeader g) (rests : Settled g) where
+  module _ (c : EndsOnBox a) (g : Stage) (e : stage_led a ≡ Some g) (past : PastHeader g) (rests : Settled g) where
     full : All (ChunkAt a) (chunks a)
     full = chunks_in_full a g e rests
 
@@ -145,51 +139,51 @@ module _ (a b : List ℕ) where
         ∙ ap₂ {C = List ℕ} (λ (l r : List ℕ). l ++ r)
         (ap (λ (fs : List Fragment). map (start_at (a ++ b)) (first_moofs fs)) (fragments_front h (chunks a) full)
         ∙ starts_front (first_moofs (in_fragments (sync_at a h) (chunks a))) (all_moofs (ChunkAt a) (sync_at a h) (chunks a) full))
-        (ticks_behind_lem h (last_end (a ++ b) h Unset (chunks a)) (chunks b)
-        ∙ ap (λ (p : Previous). ticks_behind b h p (chunks b)) (ends_front a b h Unset (chunks a) full))
+        (ticks_behind_lem h (last_end (a ++ b) h None (chunks a)) (chunks b)
+        ∙ ap (λ (p : Option ℕ). ticks_behind b h p (chunks b)) (ends_front a b h None (chunks a) full))
 
     -- the ruling, where m boxes frame the front
-    pub ruling_append : (m : ℕ) → framed a ≡ Framed m
+    pub ruling_append : (m : ℕ) → framed a ≡ Ok m
         → ruling (a ++ b)
         ≡ (rule1 (length (a ++ b))
         then moved (length a) (framing_rule (framing (forest Top b 0) 0 m))
         then moved (length a) (order_from (length b) g (boxes b 0))
         then rules_of_header a
-        then rules_of_chunks a (header_of a) Unset (chunks a)
-        then moved (length a) (rules_of_chunks b (header_of a) (last_end a (header_of a) Unset (chunks a)) (chunks b)))
+        then rules_of_chunks a (header_of a) None (chunks a)
+        then moved (length a) (rules_of_chunks b (header_of a) (last_end a (header_of a) None (chunks a)) (chunks b)))
     unfolding ruling
     ruling_append m q =
         let order : rule6 (a ++ b) ≡ moved (length a) (order_from (length b) g (boxes b 0)) =
         order_append a b c
-        ∙ ap (λ (p : Stepped). on_stepped p (λ g. moved (length a) (order_from (length b) g (boxes b 0))) (rule6 a)) e in
+        ∙ ap (λ (p : Option Stage). on_stepped p (λ g. moved (length a) (order_from (length b) g (boxes b 0))) (rule6 a)) e in
         rw (
           rules_of_framing_append a b m c q,
           order,
           rules_of_header_append a b c g e past,
           header_append a b c g e past,
-          rules_append a b (header_of a) Unset c full,
+          rules_append a b (header_of a) None c full,
         )
 
 -- behind an accepted track: the length, and the framing, the order and the chunks of the rest, moved
-pub accepted_append : (a b : List ℕ) (m : ℕ) → ruling a ≡ Holds → framed a ≡ Framed m
+pub accepted_append : (a b : List ℕ) (m : ℕ) → ruling a ≡ Ok tt → framed a ≡ Ok m
     → ruling (a ++ b)
     ≡ (rule1 (length (a ++ b))
     then moved (length a)
     (framing_rule (framing (forest Top b 0) 0 m)
     then order_from (length b) Paired (boxes b 0)
-    then rules_of_chunks b (header_of a) (last_end a (header_of a) Unset (chunks a)) (chunks b)))
+    then rules_of_chunks b (header_of a) (last_end a (header_of a) None (chunks a)) (chunks b)))
 unfolding rule6
 accepted_append a b m r q =
     let k = accepted_keeps a r in
     let c = framed_ends a k.0.1 in
     let f = framing_rule (framing (forest Top b 0) 0 m) in
     let o = order_from (length b) Paired (boxes b 0) in
-    let n = rules_of_chunks b (header_of a) (last_end a (header_of a) Unset (chunks a)) (chunks b) in
+    let n = rules_of_chunks b (header_of a) (last_end a (header_of a) None (chunks a)) (chunks b) in
     let on : Rule → Rule = moved (length a) in
     let together : on (f then o then n) ≡ (on f then on o then on n) =
     moved_then (length a) f (o then n) ∙ ap (λ (y : Rule). on f then y) (moved_then (length a) o n) in
-    let behind : (rules_of_header a then rules_of_chunks a (header_of a) Unset (chunks a) then on n) ≡ on n =
-    then_holds (rules_of_chunks a (header_of a) Unset (chunks a) then on n) k.0.3 ∙ then_holds (on n) k.1 in
+    let behind : (rules_of_header a then rules_of_chunks a (header_of a) None (chunks a) then on n) ≡ on n =
+    then_holds (rules_of_chunks a (header_of a) None (chunks a) then on n) k.0.3 ∙ then_holds (on n) k.1 in
     ruling_append a b c Paired (order_leads (length a) Start (boxes a 0) k.0.2) tt tt m q
     ∙ ap (λ (y : Rule). rule1 (length (a ++ b)) then on f then on o then y) behind
     ∙ ap (λ (y : Rule). rule1 (length (a ++ b)) then y) (sym together)

@@ -15,7 +15,7 @@ use Rattle.rules.specs.Chunk.{shape, timing, start_of, end_of}
 use Rattle.rules.specs.Track.{mdat_at, shape_at, timing_at, start_at, end_at}
 use Rattle.rules.specs.declared.Look.TheVariants.{Nothing}
 use Rattle.rules.specs.declared.Path.TheVariants.{Top}
-use Rattle.rules.specs.declared.Previous.{Previous}
+use Rattle.std.specs.Prelude.{Option}
 use Rattle.rules.specs.declared.Header.{Header}
 use Rattle.rules.proofs.Then.{moved_by_0}
 use Rattle.rules.proofs.Forest.{FoundBox, look_nothing, forest_box, forest_nothing, boxes_box, boxes_nothing}
@@ -156,7 +156,7 @@ module _ (s : List ℕ) (x : ℕ) (f : ChunkAt s x) where
   shape_cut h =
       ap (moved x) (sym (moved_by_0 (shape (whole (chunk_cut s x) 0) h.id) ∙ ap (λ (m : List ℕ). shape m h.id) bytes_cut))
 
-  pub timing_cut : (h : Header) (prev : Previous) → timing_at s h prev x ≡ moved x (timing_at (chunk_cut s x) h prev 0)
+  pub timing_cut : (h : Header) (prev : Option ℕ) → timing_at s h prev x ≡ moved x (timing_at (chunk_cut s x) h prev 0)
   unfolding timing_at
   timing_cut h prev =
       let m = mdat_at s x in

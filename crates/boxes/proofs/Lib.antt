@@ -1,4 +1,3 @@
-pub mod Containers
 pub mod Headers
 pub mod Walks
 pub mod Stands

@@ -8,10 +8,12 @@ ghost use Rattle.rules.specs.Boxes.{look, sized, inside};
 ghost use Rattle.boxes.specs.Bounds.{LookBounds};
 
 use kinds::{DINF, EDTS, MDIA, MINF, MOOF, MOOV, MVEX, STBL, TRAF, TRAK};
-use rules::{Inside, Look, Path};
+use numbers::BigEndian;
+use rules::{Look, Path};
 
 // A header of some bytes that says a size, at a place of a slice of a length. The size is compared with the bytes that are left:
 // its sum with the place may not fit.
+#[tactic(auto, unfolding(rules::specs::Boxes::sized))]
 fn sized(length: usize, at: usize, head: usize, size: usize, kind: u32) -> Look
     requires { at ≤ length }
     ensures { result ≡ sized (length - at) head size kind }
@@ -30,8 +32,8 @@ fn read_header(s: &[u8], at: usize) -> Look
     requires { at + 8 ≤ length s.now }
     ensures { result ≡ look s.now at }
 {
-    let short = numbers::near4(s, at);
-    let kind = numbers::near4(s, at + 4);
+    let short = u32::near(s, at);
+    let kind = u32::near(s, at + 4);
     if 8 <= short {
         return sized(s.len(), at, 8, short as usize, kind);
     }
@@ -41,7 +43,7 @@ fn read_header(s: &[u8], at: usize) -> Look
     if s.len() - at < 16 {
         return Look::Short;
     }
-    let size = numbers::near8(s, at + 8);
+    let size = u64::near(s, at + 8);
     sized(s.len(), at, 16, size as usize, kind)
 }
 
@@ -62,38 +64,39 @@ pub fn look(s: &[u8], at: usize) -> Look
 }
 
 // What a box type is on a path: a type that no rule names is passed over.
-pub fn inside(path: Path, kind: u32) -> Inside
+#[tactic(auto, unfolding(rules::specs::Boxes::inside))]
+pub fn inside(path: Path, kind: u32) -> Option<Path>
     ensures { result ≡ inside path kind }
 {
     match path {
         Path::Top => match kind {
-            MOOV => Inside::Container(Path::Moov),
-            MOOF => Inside::Container(Path::Moof),
-            _ => Inside::Leaf,
+            MOOV => Some(Path::Moov),
+            MOOF => Some(Path::Moof),
+            _ => None,
         },
         Path::Moov => match kind {
-            TRAK => Inside::Container(Path::Trak),
-            MVEX => Inside::Container(Path::Flat),
-            _ => Inside::Leaf,
+            TRAK => Some(Path::Trak),
+            MVEX => Some(Path::Flat),
+            _ => None,
         },
         Path::Moof => match kind {
-            TRAF => Inside::Container(Path::Flat),
-            _ => Inside::Leaf,
+            TRAF => Some(Path::Flat),
+            _ => None,
         },
         Path::Trak => match kind {
-            EDTS => Inside::Container(Path::Flat),
-            MDIA => Inside::Container(Path::Mdia),
-            _ => Inside::Leaf,
+            EDTS => Some(Path::Flat),
+            MDIA => Some(Path::Mdia),
+            _ => None,
         },
         Path::Mdia => match kind {
-            MINF => Inside::Container(Path::Minf),
-            _ => Inside::Leaf,
+            MINF => Some(Path::Minf),
+            _ => None,
         },
         Path::Minf => match kind {
-            DINF => Inside::Container(Path::Flat),
-            STBL => Inside::Container(Path::Flat),
-            _ => Inside::Leaf,
+            DINF => Some(Path::Flat),
+            STBL => Some(Path::Flat),
+            _ => None,
         },
-        Path::Flat => Inside::Leaf,
+        Path::Flat => None,
     }
 }

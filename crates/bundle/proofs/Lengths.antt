@@ -10,7 +10,7 @@ use borrow.Author.Tests.{le-leb}
 use Rattle.rules.specs.Limits.{byte_limit}
 use Rattle.rules.specs.Track.{rule1}
 use Rattle.rules.specs.Bundle.{rule24, tracks}
-use Rattle.rules.specs.declared.Rule.TheVariants.{Holds}
+use Rattle.std.specs.Prelude.{Ok}
 use Rattle.rules.proofs.Then.{must_true}
 use Rattle.bundle.specs.Front.{record_of, bundle_of, LengthsFit, bundle_length}
 use Rattle.bundle.proofs.Written.{packed, unpacked}
@@ -53,7 +53,7 @@ each_fits (s ∷ ss) h = (omega arith, each_fits ss (omega arith))
 
 -- 1 to 16 tracks whose lengths are within the limit: their bundle breaks neither 1 nor 24, and its tracks are those
 pub bundled : (ss : List (List ℕ)) → 0 < length ss → length ss ≤ 16 → bundle_length (map length ss) ≤ byte_limit
-    → (rule1 (length (bundle_of ss)) ≡ Holds) × (rule24 (bundle_of ss) ≡ Holds) × (tracks (bundle_of ss) ≡ ss)
+    → (rule1 (length (bundle_of ss)) ≡ Ok tt) × (rule24 (bundle_of ss) ≡ Ok tt) × (tracks (bundle_of ss) ≡ ss)
 unfolding rule1
 bundled ss some few h = (
   must_true 1 0 (le-leb (length (bundle_of ss)) byte_limit (omega (arith, bundle_length_lem ss))),

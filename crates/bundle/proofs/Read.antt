@@ -1,46 +1,21 @@
--- Laws of the records: what stands at a place, one record more, and where they end.
+-- Laws of the records: one record more, and where they end.
 use mathlib.Core.Path.{◌≡◌, refl, sym, ap, ◌∙◌}
 use mathlib.Core.List.{List}
-use mathlib.Core.Bool.{Bool, false}
+use mathlib.Core.Bool.{Bool}
 use Prim.Native.Nat.{ℕ, zero, suc, ◌+◌, ◌-◌, ◌≤◌, ◌<◌}
 use native.Mathlib.Omega.{arith}
 use lib.ListN.{length}
-use lib.Dec.{eqb, ltb, eqb-suc-zero}
-use borrow.Author.Tests.{eq-eqb, ne_eqb, lt-ltb, le-ltb}
-use Rattle.numbers.specs.Numbers.{be2, be4, when}
+use lib.Dec.{ltb, eqb-suc-zero}
+use borrow.Author.Tests.{lt-ltb, le-ltb}
+use Rattle.numbers.specs.Numbers.{when}
 use Rattle.rules.specs.Limits.{record_limit}
-use Rattle.rules.specs.Bundle.{mark, lengthed, mark_at, record_at, on_mark, Records, none, wrong, track, records_from, records, rule24_from, rule24, tracks_of, tracks}
+use Rattle.rules.specs.Bundle.{record_at, on_mark, Records, none, wrong, track, records_from, records, rule24_from, rule24, tracks_of, tracks}
 use Rattle.rules.specs.declared.Mark.{Mark}
 use Rattle.rules.specs.declared.Mark.TheVariants.{Nothing, Wrong, Track}
-use Rattle.rules.specs.declared.Rule.TheVariants.{Holds, Breaks}
+use Rattle.rules.specs.Rules.{breaks}
+use Rattle.std.specs.Prelude.{Result, Ok}
+use Rattle.bundle.specs.declared.BadRecord.{BadRecord}
 use Rattle.bundle.specs.Says.{SaysBundle, ended_of}
-
-module _ (b : List ℕ) (at : ℕ) where
-  pub mark_nothing : length b ≤ at → Nothing ≡ record_at b at
-  unfolding record_at mark_at
-  mark_nothing h = sym (rw (eq-eqb (length b - at) 0 (omega arith)))
-
-  module _ (h : at < length b) where
-    some : eqb (length b - at) 0 ≡ false
-    some = ne_eqb (length b - at) 0 (λ (e : length b - at ≡ 0). omega arith)
-
-    pub mark_short : length b - at < 6 → Wrong ≡ record_at b at
-    unfolding record_at mark_at
-    mark_short l = sym (rw (some, lt-ltb _ _ l))
-
-    module _ (l : 6 ≤ length b - at) where
-      pub mark_wrong : (be2 b at ≡ mark → ⊥) → Wrong ≡ record_at b at
-      unfolding record_at mark_at
-      mark_wrong e = sym (rw (some, le-ltb _ _ l, ne_eqb _ _ e))
-
-      module _ (e : be2 b at ≡ mark) {n : ℕ} (f : n ≡ be4 b (at + 2)) where
-        pub mark_beyond : length b - at - 6 < n → Wrong ≡ record_at b at
-        unfolding record_at mark_at lengthed
-        mark_beyond g = sym (rw (some, le-ltb _ _ l, eq-eqb _ _ e, ← f, lt-ltb _ _ g))
-
-        pub mark_track : n ≤ length b - at - 6 → Track n ≡ record_at b at
-        unfolding record_at mark_at lengthed
-        mark_track g = sym (rw (some, le-ltb _ _ l, eq-eqb _ _ e, ← f, le-ltb _ _ g))
 
 -- the records from a place on, where `left` more may come
 pub records_by : (left : ℕ) (b : List ℕ) (at : ℕ) (r : Mark) → record_at b at ≡ r
@@ -78,7 +53,7 @@ ended_says : (b : List ℕ) (k : ℕ) → rule24 b ≡ rule24_from k none → le
 unfolding ended_of rule24_from
 ended_says b zero e f = (e, sym f)
 ended_says b (suc k) e f =
-    rw (eqb-suc-zero k) (e ∙ ap (λ (t : Bool). when t (Breaks 24 0 0) Holds) (eqb-suc-zero k), sym f, omega arith)
+    rw (eqb-suc-zero k) (e ∙ ap (λ (t : Bool). when t (breaks 24 0 0) (Ok tt)) (eqb-suc-zero k), sym f, omega arith)
 
 module _ (b : List ℕ) {at k : ℕ} (g : RecordsTo b at k) where
   module _ (h : k < record_limit) where
@@ -92,7 +67,7 @@ module _ (b : List ℕ) {at k : ℕ} (g : RecordsTo b at k) where
           inner = i;
         }
 
-    pub going_wrong : {r : Mark} → r ≡ record_at b at → r ≡ Wrong → (rule24 b ≡ Breaks 24 k at) × (k ≡ length (tracks b))
+    pub going_wrong : {r : Mark} → r ≡ record_at b at → r ≡ Wrong → (rule24 b ≡ breaks 24 k at) × (k ≡ length (tracks b))
     unfolding rule24_from tracks_of
     going_wrong e f =
         (g.rule ∙ ap (rule24_from k) (here b at k h (sym f ∙ e)), omega (arith, g.count, ap (λ (x : Records). length (tracks_of b x)) (here b at k h (sym f ∙ e))))
@@ -104,7 +79,7 @@ module _ (b : List ℕ) {at k : ℕ} (g : RecordsTo b at k) where
     more : at < length b → records_from (record_limit - k) b at ≡ wrong at
     more i = full b at k h ∙ ap (λ (t : Bool). when t (wrong at) none) (lt-ltb at (length b) i)
 
-    pub going_more : at < length b → (rule24 b ≡ Breaks 24 k at) × (k ≡ length (tracks b))
+    pub going_more : at < length b → (rule24 b ≡ breaks 24 k at) × (k ≡ length (tracks b))
     unfolding rule24_from tracks_of
     going_more i =
         (g.rule ∙ ap (rule24_from k) (more i), omega (arith, g.count, ap (λ (x : Records). length (tracks_of b x)) (more i)))
@@ -113,7 +88,7 @@ module _ (b : List ℕ) {at k : ℕ} (g : RecordsTo b at k) where
     going_full i = full b at k h ∙ ap (λ (t : Bool). when t (wrong at) none) (le-ltb at (length b) i)
 
   -- no bytes are left
-  pub going_ended : {r : Rattle.bundle.specs.declared.Bundled.Bundled} → r ≡ ended_of k → records_from (record_limit - k) b at ≡ none → SaysBundle r b
+  pub going_ended : {r : Result ℕ BadRecord} → r ≡ ended_of k → records_from (record_limit - k) b at ≡ none → SaysBundle r b
   unfolding rule24_from tracks_of
   going_ended {r} e n =
       rw e (ended_says b k (g.rule ∙ ap (rule24_from k) n) (omega (arith, g.count, ap (λ (x : Records). length (tracks_of b x)) n)))

@@ -2,8 +2,9 @@
 use Prim.Native.Nat.{ℕ, zero, suc, ◌+◌, ◌*◌, ◌-◌, ◌/◌, ◌%◌, ◌^◌, ◌≤◌, ◌<◌}
 use mathlib.Core.Path.{◌≡◌, refl, sym, ap, ap₂, ◌∙◌}
 use mathlib.Core.List.{List, [], ◌∷◌, ◌++◌, append_assoc}
-use native.Mathlib.Nat.{add-zero, div-div-eq-div-mul, div-add-mod', mod-eq_of_lt}
+use native.Mathlib.Nat.{add-zero}
 use native.Mathlib.Omega.{arith}
+use Rattle.std.proofs.lemmas.Nat.{from_be_bytes-to_be_bytes_4}
 use lib.ListN.{length, take, length-append}
 use lib.Seq.{take-append_seam, drop-append_seam, drop-append-add}
 use borrow.Author.Tests.{eq-eqb, ne_eqb, le-ltb}
@@ -11,23 +12,12 @@ use Rattle.numbers.specs.Numbers.{be2, be4}
 use Rattle.numbers.proofs.Bounds.{Reads, reads2, reads4, in_drop}
 use Rattle.rules.specs.Bundle.{lengthed, mark_at, record_at, Records, none, track, records_from, records, rule24_from, rule24, tracks_of, tracks}
 use Rattle.rules.specs.declared.Mark.TheVariants.{Nothing, Track}
-use Rattle.rules.specs.declared.Rule.TheVariants.{Holds}
+use Rattle.std.specs.Prelude.{Ok}
 use Rattle.bundle.specs.Front.{front_of, record_of, bundle_of, LengthsFit}
-
--- four digits in base 256
-sum : (n c b a d₀ d₁ d₂ d₃ : ℕ) → c * 256 + d₀ ≡ n → b * 256 + d₁ ≡ c → a * 256 + d₂ ≡ b → d₃ ≡ a
-    → d₃ * 16777216 + d₂ * 65536 + d₁ * 256 + d₀ ≡ n
-sum n c b a d₀ d₁ d₂ d₃ e₀ e₁ e₂ e₃ = omega arith
 
 -- a length of 32 bits is its four bytes
 bytes : (n : ℕ) → n < 2 ^ 32 → n / 16777216 % 256 * 16777216 + n / 65536 % 256 * 65536 + n / 256 % 256 * 256 + n % 256 ≡ n
-bytes n h =
-    let low : n / 256 * 256 + n % 256 ≡ n = div-add-mod' n 256 in
-    let mid : n / 65536 * 256 + n / 256 % 256 ≡ n / 256 = rw (div-div-eq-div-mul n 256 256) at (div-add-mod' (n / 256) 256) in
-    let high : n / 16777216 * 256 + n / 65536 % 256 ≡ n / 65536 =
-    rw (div-div-eq-div-mul n 65536 256) at (div-add-mod' (n / 65536) 256) in
-    let top : n / 16777216 % 256 ≡ n / 16777216 = mod-eq_of_lt (omega arith) in
-    sum n (n / 256) (n / 65536) (n / 16777216) (n % 256) (n / 256 % 256) (n / 65536 % 256) (n / 16777216 % 256) low mid high top
+bytes n h = omega (arith, from_be_bytes-to_be_bytes_4 n h)
 
 -- a mark, a length and enough bytes are a record
 marked : (b : List ℕ) (at n : ℕ) → at + 6 + n ≤ length b → be2 b at ≡ 0x5357 → be4 b (at + 2) ≡ n → record_at b at ≡ Track n
@@ -80,13 +70,13 @@ shaped (suc f) p (s ∷ ss) h w =
     ∙ ap (λ (n : ℕ). standing n ss) next))
 
 -- tracks that stand one behind the other break 24 only where there is none
-held : (k at : ℕ) (ss : List (List ℕ)) → 0 < k + length ss → rule24_from k (standing at ss) ≡ Holds
+held : (k at : ℕ) (ss : List (List ℕ)) → 0 < k + length ss → rule24_from k (standing at ss) ≡ Ok tt
 unfolding rule24_from standing
 held k at [] h = rw (ne_eqb k 0 (λ e. absurd (omega arith)))
 held k at (s ∷ ss) h = held (k + 1) (at + 6 + length s) ss (omega arith)
 
 -- a bundle of 1 to 16 tracks is framed without 24
-pub packed : (ss : List (List ℕ)) → 0 < length ss → length ss ≤ 16 → LengthsFit ss → rule24 (bundle_of ss) ≡ Holds
+pub packed : (ss : List (List ℕ)) → 0 < length ss → length ss ≤ 16 → LengthsFit ss → rule24 (bundle_of ss) ≡ Ok tt
 unfolding rule24 records
 packed ss h g w = ap (rule24_from 0) (shaped 16 [] ss g w) ∙ held 0 0 ss (omega arith)
 

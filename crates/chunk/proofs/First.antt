@@ -17,7 +17,7 @@ use Rattle.rules.specs.declared.Entry.{Entry}
 use Rattle.rules.specs.declared.Entry.TheVariants.{One, OneOrMore}
 use Rattle.rules.specs.declared.Look.{Look}
 use Rattle.rules.specs.declared.Look.TheVariants.{Nothing, Short, Small, Beyond, Good}
-use Rattle.rules.specs.declared.Rule.TheVariants.{Holds}
+use Rattle.std.specs.Prelude.{Ok}
 use Rattle.rules.specs.declared.Seen.{Seen}
 use Rattle.rules.specs.declared.Seen.TheVariants.{Never, Once}
 use Rattle.rules.proofs.FirstSeen.{first_stays, first_at_lem}
@@ -51,7 +51,7 @@ module _ (s : List ℕ) (w n c p : ℕ) where
   sees at = seen (OneOrMore w) (boxes s at)
 
   abbrev Skips : ℕ → Type 0
-  Skips at = some_of n c (sees at) ≡ Holds → places_of w (boxes s at) ≡ places_of w (boxes s (first_of p (sees at)))
+  Skips at = some_of n c (sees at) ≡ Ok tt → places_of w (boxes s at) ≡ places_of w (boxes s (first_of p (sees at)))
 
   skips_none : (at : ℕ) → boxes s at ≡ [] → Skips at
   unfolding some_of
@@ -82,8 +82,8 @@ module _ (s : List ℕ) (w n c p : ℕ) where
   skips_from (suc f) at h = skips_by at (look s at) refl (λ z a b. skips_from f (at + z) (omega (arith, h, a, b)))
 
 -- the runs are those from the first on in the front up to the end of the `traf`
-module _ (m : List ℕ) (right : rule14 m ≡ Holds) where
-  some_run : some_of 14 (traf_in m) (seen (OneOrMore trun) (kids m (traf_in m))) ≡ Holds
+module _ (m : List ℕ) (right : rule14 m ≡ Ok tt) where
+  some_run : some_of 14 (traf_in m) (seen (OneOrMore trun) (kids m (traf_in m))) ≡ Ok tt
   unfolding rule14 counts counted
   some_run = then_first _ _ (then_second _ _ (then_second _ _ (then_second _ _ right)))
 

@@ -1,5 +1,5 @@
 -- Laws of the stages: where a rule breaks, the first that does, and what is left where those before hold.
-use mathlib.Core.Path.{◌≡◌, sym, ap, ◌∙◌}
+use mathlib.Core.Path.{◌≡◌, sym, ap, subst, ◌∙◌}
 use mathlib.Core.List.{List, []}
 use mathlib.Core.Bool.{Bool, true, ◌&&◌}
 use Prim.Native.Nat.{ℕ, ◌+◌, ◌*◌, ◌≤◌}
@@ -9,55 +9,61 @@ use lib.Dec.{leb, eqb}
 use borrow.Author.Tests.{leb-true, ne_eqb}
 use Rattle.numbers.specs.Numbers.{when}
 use Rattle.rules.specs.Limits.{sample_limit}
-use Rattle.rules.specs.Rules.{◌then◌, must, PlacedUpTo}
+use Rattle.rules.specs.Rules.{◌then◌, must, PlacedUpTo, Rule}
 use Rattle.rules.specs.Counts.{counts}
 use Rattle.rules.specs.Chunk.{entries_in_moof, entries_in_traf, traf_in, runs_in, rule14, rule15, rule15runs, rule16runs, rule16, flagged, rule17, samples_of, few, rule18, shape}
 use Rattle.rules.specs.Chunk.{durations_of, bytes_in, first_flags, duration_in, end_of, is_sync, sync_in, opens, follows, lasts}
 use Rattle.rules.specs.Chunk.{rule19, rule20, rule21, rule22runs, rule22, timing}
 use Rattle.rules.specs.declared.Entry.{Entry}
-use Rattle.rules.specs.declared.Rule.{Rule}
-use Rattle.rules.specs.declared.Rule.TheVariants.{Holds, Breaks}
+use Rattle.std.specs.Prelude.{Option, Result, Ok, Err}
+use Rattle.rules.specs.declared.Refusal.{Refusal}
 use Rattle.rules.specs.declared.Defaults.{Defaults}
-use Rattle.rules.specs.declared.Header.{Header}
-use Rattle.rules.specs.declared.Previous.{Previous}
 use Rattle.rules.specs.declared.Spot.{Spot}
 use Rattle.rules.proofs.Laws.{and_first, and_second}
 use Rattle.rules.proofs.Then.{then_holds, then_breaks, then_last, then_assoc, then_first, then_second, must_holds}
-use Rattle.rules.proofs.Untracked.{then_is, must_is, breaks_at_0, counts_untracked, before_sums_untracked, of_sums_untracked}
+use Rattle.rules.proofs.Untracked.{Untracked, then_is, must_is, counts_untracked, before_sums_untracked, of_sums_untracked}
 use Rattle.boxes.specs.Stands.{Stands}
 use Rattle.chunk.specs.Bodies.{MoofIn, BodyIn}
 use Rattle.runs.specs.Runs.{Due, SpansAll, PassedRuns}
 use Rattle.chunk.specs.Answers.{says, SaysChunk}
-use Rattle.chunk.specs.declared.Chunk.{Chunk}
-use Rattle.chunk.specs.declared.Chunk.TheVariants.{Good, Refused}
+use Rattle.chunk.specs.declared.Interval.{Interval}
+use Rattle.chunk.specs.declared.around.Setting.{Setting}
 use Rattle.chunk.specs.declared.bodies.BodyValues.{BodyValues}
 use Rattle.chunk.specs.declared.bodies.InMoof.{InMoof}
 use Rattle.runs.specs.declared.Span.{Span}
 use Rattle.runs.specs.declared.Totals.{Totals}
 
+-- past a rule that breaks
+stops : {r : Rule} (q : Rule) {e : Refusal} → r ≡ Err e → (r then q) ≡ Err e
+stops q {e = e} is = then_breaks q {n = e.number} {t = e.track} {p = e.place} is
+
+-- a rule that breaks, breaks on track 0, at a place in the `moof` or at its end
+abbrev pub Own : List ℕ → Refusal → Type 0
+Own m e = (e.track ≡ 0) × (e.place ≤ length m)
+
+own : (m : List ℕ) {r : Rule} {e : Refusal} → Untracked r → PlacedUpTo (length m) r → r ≡ Err e → Own m e
+own m u low is = (subst Untracked is u, subst (PlacedUpTo (length m)) is low)
+
 -- counts that break
 pub counts_break :
-    (n : ℕ) (m : List ℕ) (at : ℕ) (es : List Entry) (r : Rule) {i t p : ℕ} → r ≡ counts n m at es → PlacedUpTo (length m) r → r ≡ Breaks i t p →
-    (counts n m at es ≡ Breaks i 0 p) × (p ≤ length m)
-counts_break n m at es r e low b =
-    let u = breaks_at_0 (length m) {r = r} (rw e (counts_untracked n m at es)) low b in
-    (sym e ∙ u.0, u.1)
+    (n : ℕ) (m : List ℕ) (at : ℕ) (es : List Entry) (r : Rule) {e : Refusal} → r ≡ counts n m at es → PlacedUpTo (length m) r → r ≡ Err e →
+    (counts n m at es ≡ Err e) × Own m e
+counts_break n m at es r is low b = (sym is ∙ b, own m {r = r} (rw is (counts_untracked n m at es)) low b)
 
-module _ (m : List ℕ) (h : Header) (head payload : ℕ) (prev : Previous) {i p : ℕ} where
-  pub broken_moof : counts 14 m 0 entries_in_moof ≡ Breaks i 0 p → p ≤ length m → SaysChunk (Refused i p) m h head payload prev
+module _ (m : List ℕ) (s : Setting) {e : Refusal} where
+  pub broken_moof : (counts 14 m 0 entries_in_moof ≡ Err e) × Own m e → SaysChunk (Err e) m s
   unfolding shape rule14
-  broken_moof e l = (then_breaks _ (then_breaks _ (then_breaks _ e)), l)
+  broken_moof b = (stops _ (stops _ (stops _ b.0)), b.1.0, b.1.1)
 
-  pub broken_traf :
-      counts 14 m 0 entries_in_moof ≡ Holds → counts 14 m (traf_in m) entries_in_traf ≡ Breaks i 0 p → p ≤ length m → SaysChunk (Refused i p) m h head payload prev
+  pub broken_traf : counts 14 m 0 entries_in_moof ≡ Ok tt → (counts 14 m (traf_in m) entries_in_traf ≡ Err e) × Own m e → SaysChunk (Err e) m s
   unfolding shape rule14
-  broken_traf o e l = (then_breaks _ (then_breaks _ (then_holds _ o ∙ e)), l)
+  broken_traf o b = (stops _ (stops _ (then_holds _ o ∙ b.0)), b.1.0, b.1.1)
 
-  pub broken_15 : rule14 m ≡ Holds → rule15 m ≡ Breaks i 0 p → p ≤ length m → SaysChunk (Refused i p) m h head payload prev
+  pub broken_15 : rule14 m ≡ Ok tt → rule15 m ≡ Err e → Own m e → SaysChunk (Err e) m s
   unfolding shape
-  broken_15 o e l = (then_breaks _ (then_holds _ o ∙ then_breaks _ e), l)
+  broken_15 o b l = (stops _ (then_holds _ o ∙ stops _ b), l.0, l.1)
 
-pub right_14 : (m : List ℕ) → counts 14 m 0 entries_in_moof ≡ Holds → counts 14 m (traf_in m) entries_in_traf ≡ Holds → rule14 m ≡ Holds
+pub right_14 : (m : List ℕ) → counts 14 m 0 entries_in_moof ≡ Ok tt → counts 14 m (traf_in m) entries_in_traf ≡ Ok tt → rule14 m ≡ Ok tt
 unfolding rule14
 right_14 m a b = then_holds _ a ∙ b
 
@@ -80,27 +86,30 @@ module _ (m : List ℕ) (d : Defaults) (x : InMoof) (k : BodyValues) (t : Totals
   unfolding samples_of
   samples_is = omega (arith, passed.samples)
 
-  module _ (id : ℕ) (prev : Previous) where
+  module _ (id : ℕ) (prev : Option ℕ) where
     pub before_sums :
-        (must (flagged k.flags) 16 x.tfhd.at then t.clash then must (eqb k.id id) 17 x.tfhd.at
-        then must (few t.samples) 18 x.traf.at then must (follows prev k.start) 19 x.tfdt.at)
+        ((((must (flagged k.flags) 16 x.tfhd.at then t.clash) then must (eqb k.id id) 17 x.tfhd.at)
+        then must (few t.samples) 18 x.traf.at) then must (follows prev k.start) 19 x.tfdt.at)
         ≡ (rule16 m then rule17 m id then rule18 m then rule19 m prev)
     unfolding rule16 rule17 rule18 rule19
     before_sums =
-        rw (told.flags, told.id, told.start, clash_is, samples_is, found.tfhd.place, found.traf.place, found.tfdt.place) (sym (then_assoc _ _ _))
+        rw (told.flags, told.id, told.start, clash_is, samples_is, found.tfhd.place, found.traf.place, found.tfdt.place) (simp then_assoc)
 
     pub before_sums_placed :
         PlacedUpTo (length m)
-        (must (flagged k.flags) 16 x.tfhd.at then t.clash then must (eqb k.id id) 17 x.tfhd.at
-        then must (few t.samples) 18 x.traf.at then must (follows prev k.start) 19 x.tfdt.at)
+        ((((must (flagged k.flags) 16 x.tfhd.at then t.clash) then must (eqb k.id id) 17 x.tfhd.at)
+        then must (few t.samples) 18 x.traf.at) then must (follows prev k.start) 19 x.tfdt.at)
     before_sums_placed =
-        next found.tfhd.stands _ 16 _
-        (then_is (PlacedUpTo (length m)) _ _ passed.place
-        (next found.tfhd.stands _ 17 _ (next found.traf.stands _ 18 _ (last found.tfdt.stands _ 19))))
+        and_then _ _
+        (and_then _ _ (and_then _ _ (next found.tfhd.stands _ 16 _ passed.place) (last found.tfhd.stands _ 17)) (last found.traf.stands _ 18))
+        (last found.tfdt.stands _ 19)
+      where
+        and_then : (r q : Rule) → PlacedUpTo (length m) r → PlacedUpTo (length m) q → PlacedUpTo (length m) (r then q)
+        and_then = then_is (PlacedUpTo (length m))
 
     -- where they hold, the sums were asked for
     module _ (want : Bool) (worth : want ≡ (flagged k.flags && eqb k.id id && follows prev k.start))
-        (good : (rule16 m then rule17 m id then rule18 m then rule19 m prev) ≡ Holds) where
+        (good : (rule16 m then rule17 m id then rule18 m then rule19 m prev) ≡ Ok tt) where
       pub few_samples : few t.samples ≡ true
       unfolding rule18
       few_samples = rw samples_is (must_holds _ 18 _ (then_first _ _ (then_second _ _ (then_second _ _ good))))
@@ -162,46 +171,46 @@ module _ (m : List ℕ) (d : Defaults) (x : InMoof) (k : BodyValues) (n : ℕ) (
   opens_on = rw (← told.own) (sym sync_is)
 
   -- 21 and 22
-  module _ (payload : ℕ) (prev : Previous) (rule : Rule)
-      (is : rule ≡ (must (opens prev a.sync) 21 x.run.at then a.tiled then must (eqb a.bytes payload) 22 (length m))) where
+  module _ (payload : ℕ) (prev : Option ℕ) (rule : Rule)
+      (is : rule ≡ ((must (opens prev a.sync) 21 x.run.at then a.tiled) then must (eqb a.bytes payload) 22 (length m))) where
     pub rest_is : rule ≡ (rule21 m d prev then rule22 m d head payload)
     unfolding rule21 rule22
-    rest_is = is ∙ rw (opens_on, ← told.own, bytes_are, tiled_is, found.run.place)
+    rest_is = is ∙ then_assoc _ _ _ ∙ rw (opens_on, ← told.own, bytes_are, tiled_is, found.run.place)
 
-    pub rest_breaks : {i b p : ℕ} → rule ≡ Breaks i b p → ((rule21 m d prev then rule22 m d head payload) ≡ Breaks i 0 p) × (p ≤ length m)
+    pub rest_breaks : {e : Refusal} → rule ≡ Err e → ((rule21 m d prev then rule22 m d head payload) ≡ Err e) × Own m e
     rest_breaks e =
         let low : PlacedUpTo (length m) rule =
-        rw is (next found.run.stands _ 21 _ (then_is (PlacedUpTo (length m)) _ _ s.place (must_is (PlacedUpTo (length m)) _ 22 _ tt (omega arith)))) in
-        let r = breaks_at_0 (length m) {r = rule} (rw rest_is (of_sums_untracked m d head payload prev)) low e in
-        (sym rest_is ∙ r.0, r.1)
+        rw is (then_is (PlacedUpTo (length m)) _ _ (next found.run.stands _ 21 _ s.place) (must_is (PlacedUpTo (length m)) _ 22 _ tt (omega arith))) in
+        (sym rest_is ∙ e, own m {r = rule} (rw rest_is (of_sums_untracked m d head payload prev)) low e)
 
 -- rules may be grouped
 regroup : (a b c d e : Rule) → ((a then b then c) then (d then e)) ≡ ((a then b then c then d) then e)
 regroup a b c d e = simp then_assoc
 
-pub right_15 : (m : List ℕ) (t : Totals) → rule15 m ≡ rule15runs m (runs_in m) → PassedRuns m (runs_in m) [] t → rule15 m ≡ Holds
+pub right_15 : (m : List ℕ) (t : Totals) → rule15 m ≡ rule15runs m (runs_in m) → PassedRuns m (runs_in m) [] t → rule15 m ≡ Ok tt
 unfolding rule15runs
 right_15 m t sized passed = sized ∙ passed.sized
 
 -- where 14 and 15 hold, the rest: 16 to 19, then 20 to 22
-module _ (m : List ℕ) (h : Header) (head payload : ℕ) (prev : Previous) (right : rule14 m ≡ Holds) (sized : rule15 m ≡ Holds) where
-  rest_of :
-      (shape m h.id then timing m h.defaults head payload prev)
-      ≡ ((rule16 m then rule17 m h.id then rule18 m then rule19 m prev)
-      then (rule20 m h.defaults then rule21 m h.defaults prev then rule22 m h.defaults head payload))
+module _ (m : List ℕ) (s : Setting) (right : rule14 m ≡ Ok tt) (sized : rule15 m ≡ Ok tt) where
+  abbrev d : Defaults
+  d = s.header.defaults
+
+  abbrev before : Rule
+  before = rule16 m then rule17 m s.header.id then rule18 m then rule19 m s.prev
+
+  abbrev after : Rule
+  after = rule20 m d then rule21 m d s.prev then rule22 m d s.head s.payload
+
+  rest_of : (shape m s.header.id then timing m d s.head s.payload s.prev) ≡ (before then after)
   unfolding shape timing
-  rest_of = ap (λ (r : Rule). r then timing m h.defaults head payload prev) (then_holds _ right ∙ then_holds _ sized) ∙ regroup _ _ _ _ _
+  rest_of = ap (λ (r : Rule). r then timing m d s.head s.payload s.prev) (then_holds _ right ∙ then_holds _ sized) ∙ regroup _ _ _ _ _
 
-  pub broken_19 :
-      {v : Rule} {i b p : ℕ} → v ≡ (rule16 m then rule17 m h.id then rule18 m then rule19 m prev) → PlacedUpTo (length m) v → v ≡ Breaks i b p →
-      SaysChunk (Refused i p) m h head payload prev
+  pub broken_19 : {v : Rule} {e : Refusal} → v ≡ before → PlacedUpTo (length m) v → v ≡ Err e → SaysChunk (Err e) m s
   broken_19 {v} is low e =
-      let r = breaks_at_0 (length m) {r = v} (rw is (before_sums_untracked m h.id prev)) low e in
-      (rest_of ∙ then_breaks _ (sym is ∙ r.0), r.1)
+      let l = own m {r = v} (rw is (before_sums_untracked m s.header.id s.prev)) low e in
+      (rest_of ∙ stops _ (sym is ∙ e), l.0, l.1)
 
-  pub settled :
-      (rule16 m then rule17 m h.id then rule18 m then rule19 m prev) ≡ Holds → (r : Chunk) →
-      says r (rule20 m h.defaults then rule21 m h.defaults prev then rule22 m h.defaults head payload) m h.defaults →
-      SaysChunk r m h head payload prev
-  settled good (Good f) s = (rest_of ∙ then_holds _ good ∙ s.0, s.1, s.2, s.3, s.4)
-  settled good (Refused i p) s = (rest_of ∙ then_holds _ good ∙ s.0, s.1)
+  pub settled : before ≡ Ok tt → (r : Result Interval Refusal) → says r after m d → SaysChunk r m s
+  settled good (Ok f) k = (rest_of ∙ then_holds _ good ∙ k.0, k.1, k.2, k.3, k.4)
+  settled good (Err e) k = (rest_of ∙ then_holds _ good ∙ k.0, k.1, k.2)

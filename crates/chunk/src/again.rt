@@ -1,13 +1,15 @@
 // A second look at a chunk, by the bytes of its `moof`, whatever they hold: its start, and whether its first sample is a sync sample.
+// Its readers stay beside those of the first look: these ask that the bytes are there, and read without a test; a second look is asked of any bytes.
 ghost use Rattle.std.specs.Prelude.{◌≡◌, ◌≤◌, length};
 ghost use Rattle.rules.specs.Limits.{byte_limit};
 ghost use Rattle.rules.specs.Counts.{child};
 ghost use Rattle.rules.specs.Chunk.{traf_in, tfhd_in, start_of, defaults_in, sync_in};
 ghost use Rattle.boxes.specs.Stands.{Stands, WholeBox, StandsAt};
 
+use crate::layout::default_offsets;
 use boxes::kinds::{TFDT, TFHD, TRAF};
+use numbers::{BigEndian, U24};
 use rules::{Defaults, Look, Spot};
-use runs::layout::bytes_for;
 
 // The first box of a type in the container that stands there, or the container itself where there is none.
 fn first_child(m: &[u8], x: Spot, w: u32) -> Spot
@@ -15,7 +17,7 @@ fn first_child(m: &[u8], x: Spot, w: u32) -> Spot
     ensures { StandsAt m.now (child m.now x.at w) result }
 {
     let end = x.at + x.size;
-    let mut at = x.at + x.head;
+    let mut at = x.at + x.head; // no range: each step is as long as the box that stands there
     loop {
         let l = boxes::look(&m[..end], at);
         let Look::Good { head, size, kind } = l else {
@@ -48,10 +50,10 @@ pub fn start_in(m: &[u8], traf: Spot) -> u64
 {
     let tfdt = first_child(m, traf, TFDT);
     let body = tfdt.at + tfdt.head;
-    if numbers::byte(m, body) == 1 {
-        numbers::be8(m, body + 4)
+    if u8::read(m, body) == 1 {
+        u64::read(m, body + 4)
     } else {
-        numbers::be4(m, body + 4) as u64
+        u32::read(m, body + 4) as u64
     }
 }
 
@@ -61,11 +63,9 @@ fn flags_in(m: &[u8], tfhd: Spot, d: Defaults) -> u32
     ensures { result ≡ (defaults_in m.now d).flags }
 {
     let body = tfhd.at + tfhd.head;
-    let flags = numbers::be3(m, body + 1);
+    let flags = U24::read(m, body + 1).value;
     if numbers::has(flags, 0x20) {
-        let duration = 8 + bytes_for(8, flags, 0x1) + bytes_for(4, flags, 0x2);
-        let last = duration + bytes_for(4, flags, 0x8) + bytes_for(4, flags, 0x10);
-        return numbers::be4(m, body + last);
+        return u32::read(m, body + default_offsets(flags).flags);
     }
     d.flags
 }

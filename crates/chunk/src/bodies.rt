@@ -1,4 +1,4 @@
-// Rule 15: the bodies of a chunk's boxes before its runs, each by a reader of its own.
+// Rule 15: the bodies of a chunk's boxes before its runs, each by a reader of its own, which answers nothing where a body has another form.
 ghost use Rattle.rules.specs.Chunk.{mfhd_in, tfhd_in, tfdt_in};
 ghost use Rattle.boxes.specs.Stands.{StandsAt};
 ghost use Rattle.chunk.specs.Bodies.{SaysMfhd, SaysTfhd, SaysTfdt};
@@ -7,25 +7,12 @@ use crate::layout;
 use fields::Version;
 use rules::{Defaults, Spot};
 
-// What an `mfhd` says: nothing that a rule asks for, or that it has another form.
+// What a `tfhd` says: its flags, its track ID and the defaults with its own.
 #[derive(Clone, Copy)]
-pub enum Mfhd {
-    Plain,
-    Wrong,
-}
-
-// What a `tfhd` says: its flags, its track ID and the defaults with its own, or that it has another form.
-#[derive(Clone, Copy)]
-pub enum Tfhd {
-    Of { flags: u32, id: u32, own: Defaults },
-    Wrong,
-}
-
-// What a `tfdt` says: the chunk's start, or that it has another form.
-#[derive(Clone, Copy)]
-pub enum Tfdt {
-    Of(u64),
-    Wrong,
+pub struct Tfhd {
+    pub flags: u32,
+    pub id: u32,
+    pub own: Defaults,
 }
 
 // Where the boxes of a chunk stand in its `moof`, of the runs the first.
@@ -47,46 +34,44 @@ pub struct BodyValues {
     pub own: Defaults,
 }
 
-// The `mfhd`: 16, version 0.
-pub fn read_mfhd(m: &[u8], b: Spot) -> Mfhd
+// The `mfhd`: 16, version 0; it says nothing that a rule asks for.
+pub fn read_mfhd(m: &[u8], b: Spot) -> Option<()>
     requires { StandsAt m.now (mfhd_in m.now) b }
     ensures { SaysMfhd result m.now }
 {
     if fields::is_plain(m, b, 16) {
-        Mfhd::Plain
+        Some(())
     } else {
-        Mfhd::Wrong
+        None
     }
 }
 
 // The `tfhd`: version 0, sized by its flags; with the `trex` defaults.
-pub fn read_tfhd(m: &[u8], b: Spot, d: Defaults) -> Tfhd
+pub fn read_tfhd(m: &[u8], b: Spot, d: Defaults) -> Option<Tfhd>
     requires { StandsAt m.now (tfhd_in m.now) b }
     ensures { SaysTfhd result m.now d }
 {
     if b.size - b.head < 8 {
-        return Tfhd::Wrong;
+        return None;
     }
     let flags = fields::flags(m, b);
     if !fields::is_plain(m, b, layout::tfhd_size(flags)) {
-        return Tfhd::Wrong;
+        return None;
     }
-    Tfhd::Of {
+    Some(Tfhd {
         flags,
         id: fields::word(m, b, 4),
         own: layout::defaults(m, b, flags, d),
-    }
+    })
 }
 
-// The `tfdt`: 16 (version 0) or 20 (version 1).
-pub fn read_tfdt(m: &[u8], b: Spot) -> Tfdt
+// The `tfdt`: 16 (version 0) or 20 (version 1); it says the chunk's start.
+pub fn read_tfdt(m: &[u8], b: Spot) -> Option<u64>
     requires { StandsAt m.now (tfdt_in m.now) b }
     ensures { SaysTfdt result m.now }
 {
-    let version = fields::versioned(m, b, 16, 20);
-    match version {
-        Version::Zero => Tfdt::Of(fields::word(m, b, 4) as u64),
-        Version::One => Tfdt::Of(fields::double(m, b, 4)),
-        Version::Wrong => Tfdt::Wrong,
+    match fields::versioned(m, b, 16, 20)? {
+        Version::Zero => Some(fields::word(m, b, 4) as u64),
+        Version::One => Some(fields::double(m, b, 4)),
     }
 }

@@ -5,17 +5,18 @@ ghost use Rattle.std.specs.Prelude.{◌≡◌, ◌≤◌, length};
 ghost use Rattle.rules.specs.Limits.{byte_limit};
 ghost use Rattle.rules.specs.Counts.{counts};
 ghost use Rattle.rules.specs.Chunk.{entries_in_moof, mfhd_in, traf_in, runs_in, rule14, rule15, rule15runs};
-ghost use Rattle.rules.specs.declared.Rule.TheVariants.{Holds};
 ghost use Rattle.boxes.specs.Stands.{WholeBox, StandsAt};
 ghost use Rattle.chunk.specs.Bodies.{MoofIn, BodyIn};
 ghost use Rattle.chunk.specs.Answers.{SaysChunk};
 
+pub use around::Setting;
 use bodies::{BodyValues, InMoof};
 use boxes::kinds::{MFHD, TFDT, TFHD, TRAF, TRUN};
-use rules::{Entry, Header, Previous, Rule, Spot};
-use runs::Runs;
+use fields::wrong_body;
+use rules::{Entry, Refusal, Spot};
 
 pub mod again;
+mod around;
 mod bodies;
 mod layout;
 mod values;
@@ -28,118 +29,73 @@ pub struct Interval {
     pub sync: bool,
 }
 
-// A chunk is good, or a rule breaks with its number and its place in the `moof`.
-#[derive(Clone, Copy)]
-pub enum Chunk {
-    Good(Interval),
-    Refused { number: u64, place: u64 },
-}
-
 // The runs of a chunk whose other bodies are read, then rules 16 to 22.
-fn settle(
-    m: &[u8],
-    x: InMoof,
-    k: BodyValues,
-    head: u64,
-    payload: u64,
-    h: Header,
-    prev: Previous,
-) -> Chunk
-    requires m_len_bound { (length m.now ≤ byte_limit) × (head ≤ 16) × MoofIn m.now x × BodyIn m.now h.defaults k }
-    requires m_value { (rule14 m.now ≡ Holds) × (rule15 m.now ≡ rule15runs m.now (runs_in m.now)) }
-    ensures { SaysChunk result m.now h head payload prev }
+fn settle(m: &[u8], x: InMoof, k: BodyValues, s: Setting) -> Result<Interval, Refusal>
+    requires m_len_bound { (length m.now ≤ byte_limit) × MoofIn m.now x × BodyIn m.now s.header.defaults k }
+    requires m_value { (rule14 m.now ≡ Ok tt) × (rule15 m.now ≡ rule15runs m.now (runs_in m.now)) }
+    ensures { SaysChunk result m.now s }
 {
     let end = x.traf.at + x.traf.size;
-    let worth = values::worth_summing(k, h.id, prev);
-    let all = runs::walk(m, &m[..end], x.run.at, worth, k.own, m.len() as u64 + head);
-    match all {
-        Runs::Wrong(place) => Chunk::Refused { number: 15, place },
-        Runs::Of(t) => {
-            let rule = values::rules_before_sums(m, x, k, t, h, prev);
-            match rule {
-                Rule::Breaks { number, place, .. } => Chunk::Refused { number, place },
-                Rule::Holds => values::rules_of_sums(m, x, k, t, head, payload, h, prev),
-            }
-        }
-    }
+    let worth = values::worth_summing(k, s.header.id, s.prev);
+    let all = runs::walk(
+        m,
+        &m[..end],
+        x.run.at,
+        worth,
+        k.own,
+        m.len() as u64 + s.head,
+    )?;
+    values::rules_before_sums(m, x, k, all, s)?;
+    values::rules_of_sums(m, x, k, all, s)
 }
 
 // The bodies before the runs of a chunk whose boxes stand there, then the rest.
-fn read(m: &[u8], x: InMoof, head: u64, payload: u64, h: Header, prev: Previous) -> Chunk
-    requires { (length m.now ≤ byte_limit) × (head ≤ 16) × MoofIn m.now x × (rule14 m.now ≡ Holds) }
-    ensures { SaysChunk result m.now h head payload prev }
+fn read(m: &[u8], x: InMoof, s: Setting) -> Result<Interval, Refusal>
+    requires { (length m.now ≤ byte_limit) × MoofIn m.now x × (rule14 m.now ≡ Ok tt) }
+    ensures { SaysChunk result m.now s }
 {
-    let mfhd = bodies::read_mfhd(m, x.mfhd);
-    let bodies::Mfhd::Plain = mfhd else {
-        let place = x.mfhd.at as u64;
-        return Chunk::Refused { number: 15, place };
+    let Some(()) = bodies::read_mfhd(m, x.mfhd) else {
+        return Err(wrong_body(15, x.mfhd));
     };
-    let tfhd = bodies::read_tfhd(m, x.tfhd, h.defaults);
-    let bodies::Tfhd::Of { flags, id, own } = tfhd else {
-        let place = x.tfhd.at as u64;
-        return Chunk::Refused { number: 15, place };
+    let Some(tfhd) = bodies::read_tfhd(m, x.tfhd, s.header.defaults) else {
+        return Err(wrong_body(15, x.tfhd));
     };
-    let tfdt = bodies::read_tfdt(m, x.tfdt);
-    let bodies::Tfdt::Of(start) = tfdt else {
-        let place = x.tfdt.at as u64;
-        return Chunk::Refused { number: 15, place };
+    let Some(start) = bodies::read_tfdt(m, x.tfdt) else {
+        return Err(wrong_body(15, x.tfdt));
     };
     let k = BodyValues {
-        flags,
-        id,
+        flags: tfhd.flags,
+        id: tfhd.id,
         start,
-        own,
+        own: tfhd.own,
     };
-    settle(m, x, k, head, payload, h, prev)
+    settle(m, x, k, s)
 }
 
 // The counts in `traf`, where those in `moof` are right, then the rest.
-fn in_traf(
-    m: &[u8],
-    mfhd: Spot,
-    traf: Spot,
-    head: u64,
-    payload: u64,
-    h: Header,
-    prev: Previous,
-) -> Chunk
-    requires m_len_bound { (length m.now ≤ byte_limit) × (head ≤ 16) × (counts 14 m.now 0 entries_in_moof ≡ Holds) }
+fn in_traf(m: &[u8], mfhd: Spot, traf: Spot, s: Setting) -> Result<Interval, Refusal>
+    requires m_len_bound { (length m.now ≤ byte_limit) × (counts 14 m.now 0 entries_in_moof ≡ Ok tt) }
     requires stands_at { StandsAt m.now (mfhd_in m.now) mfhd × StandsAt m.now (traf_in m.now) traf }
-    ensures { SaysChunk result m.now h head payload prev }
+    ensures { SaysChunk result m.now s }
 {
     let some = Entry::OneOrMore(TRUN);
     let seen = counts::count_boxes(14, m, traf, Entry::One(TFHD), Entry::One(TFDT), some);
-    let rule = seen.rule;
-    match rule {
-        Rule::Breaks { number, place, .. } => Chunk::Refused { number, place },
-        Rule::Holds => {
-            let tfhd = seen.a.first;
-            let tfdt = seen.b.first;
-            let run = seen.c.first;
-            let x = InMoof {
-                mfhd,
-                traf,
-                tfhd,
-                tfdt,
-                run,
-            };
-            read(m, x, head, payload, h, prev)
-        }
-    }
+    seen.rule?;
+    let x = InMoof {
+        mfhd,
+        traf,
+        tfhd: seen.a.first,
+        tfdt: seen.b.first,
+        run: seen.c.first,
+    };
+    read(m, x, s)
 }
 
-// Rules 14 to 22 of the chunk whose `moof` has the bytes m, with the length of its header, the header length and the payload length
-// of its `mdat`, what the track's header tells, and the previous end.
-pub fn check_chunk(
-    m: &[u8],
-    moof: usize,
-    head: u64,
-    payload: u64,
-    h: Header,
-    prev: Previous,
-) -> Chunk
-    requires { WholeBox m.now moof × (length m.now ≤ byte_limit) × (head ≤ 16) }
-    ensures { SaysChunk result m.now h head payload prev }
+// Rules 14 to 22 of the chunk whose `moof` has the bytes m, with the length of its header. Where one breaks, its place is one in
+// those bytes, or their end.
+pub fn check_chunk(m: &[u8], moof: usize, s: Setting) -> Result<Interval, Refusal>
+    requires { WholeBox m.now moof × (length m.now ≤ byte_limit) }
+    ensures { SaysChunk result m.now s }
 {
     let whole = Spot {
         at: 0,
@@ -148,9 +104,6 @@ pub fn check_chunk(
     };
     let none = Entry::Nothing;
     let seen = counts::count_boxes(14, m, whole, Entry::One(MFHD), Entry::One(TRAF), none);
-    let rule = seen.rule;
-    match rule {
-        Rule::Breaks { number, place, .. } => Chunk::Refused { number, place },
-        Rule::Holds => in_traf(m, seen.a.first, seen.b.first, head, payload, h, prev),
-    }
+    seen.rule?;
+    in_traf(m, seen.a.first, seen.b.first, s)
 }

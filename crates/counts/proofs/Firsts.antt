@@ -2,12 +2,11 @@
 use mathlib.Core.Path.{◌≡◌, refl, ap, ◌∙◌}
 use mathlib.Core.List.{List, [], ◌∷◌, ◌++◌}
 use Prim.Native.Nat.{ℕ}
-use Rattle.rules.specs.Rules.{◌then◌}
+use Rattle.rules.specs.Rules.{◌then◌, Rule}
 use Rattle.rules.specs.Boxes.{kids}
 use Rattle.rules.specs.Counts.{seen, counted, counts}
 use Rattle.rules.specs.declared.Entry.{Entry}
 use Rattle.rules.specs.declared.Entry.TheVariants.{Nothing}
-use Rattle.rules.specs.declared.Rule.{Rule}
 use Rattle.rules.proofs.Then.{then_assoc}
 
 -- entries that want nothing, at the end of two and of one; and entries counted in two walks

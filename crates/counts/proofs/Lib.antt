@@ -1,4 +1,3 @@
 pub mod Walked
-pub mod Plain
 pub mod Firsts
 pub mod Judged

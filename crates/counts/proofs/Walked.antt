@@ -6,7 +6,6 @@ use mathlib.Core.Logic.{inl, inr}
 use Prim.Native.Nat.{ℕ, ◌+◌, ◌≤◌}
 use native.Mathlib.Omega.{arith}
 use lib.ListN.{length}
-use lib.Dec.{eqb}
 use Rattle.numbers.specs.Numbers.{when}
 use Rattle.rules.specs.Boxes.{look, boxes}
 use Rattle.rules.specs.Counts.{wanted, again, seen, seen_from}
@@ -18,27 +17,22 @@ use Rattle.boxes.specs.Stands.{Stands}
 use Rattle.rules.specs.declared.Spot.{Spot}
 use Rattle.boxes.proofs.Stands.{stands_here}
 use Rattle.boxes.proofs.Walks.{told_header, found}
-use Rattle.counts.specs.Sights.{seen_of, again_at, Keeps, Saw}
+use Rattle.counts.specs.Sights.{seen_by, seen_of, again_by, again_at, Keeps, Saw}
+use Rattle.counts.specs.declared.Times.{Times}
+use Rattle.counts.specs.declared.Times.TheVariants.{Unseen, Single, Several}
 use Rattle.counts.specs.declared.Sight.{Sight}
 
 -- one box more: what is seen, and what is kept of it
-module _ (x : Spot) (v : Sight) where
-  again_by : (t u : Bool) → eqb v.count 0 ≡ t → eqb v.count 1 ≡ u → seen_of (again_at x v) ≡ again x.at (seen_of v)
-  again_by true u y z = rw y refl
-  again_by false true y z = rw (y, z) refl
-  again_by false false y z = rw (y, z, y, z) refl
+module _ (x b : Spot) where
+  seen_again : (t : Times) → seen_of (again_by x t b) ≡ again x.at (seen_by t b.at)
+  seen_again Unseen = refl
+  seen_again Single = refl
+  seen_again (Several p) = refl
 
-  pub seen_again : seen_of (again_at x v) ≡ again x.at (seen_of v)
-  seen_again = again_by (eqb v.count 0) (eqb v.count 1) refl refl
-
-  keeps_by :
-      {s : List ℕ} {k : Spot} (t u : Bool) → eqb v.count 0 ≡ t → eqb v.count 1 ≡ u → Stands s x → Keeps s k v → Keeps s k (again_at x v)
-  keeps_by true u y z h g = rw y (record { first = refl; stands = inr h; second = g.second })
-  keeps_by false true y z h g = rw (y, z) (record { first = refl; stands = g.stands; second = omega (arith, h.fits) })
-  keeps_by false false y z h g = rw (y, z) g
-
-  pub keeps_again : {s : List ℕ} {k : Spot} → Stands s x → Keeps s k v → Keeps s k (again_at x v)
-  keeps_again = keeps_by (eqb v.count 0) (eqb v.count 1) refl refl
+  keeps_again : {s : List ℕ} {k : Spot} (t : Times) → Stands s x → Keeps s k (record { first = b; times = t }) → Keeps s k (again_by x t b)
+  keeps_again Unseen h g = record { first = refl; stands = inr h; second = tt }
+  keeps_again Single h g = record { first = refl; stands = g.stands; second = omega (arith, h.fits) }
+  keeps_again (Several p) h g = record { first = refl; stands = g.stands; second = g.second }
 
 -- what is seen of an entry from a place on is v and what is seen from `at` on
 pub record SeenTo (s : List ℕ) (k : Spot) (from at : ℕ) (e : Entry) (v : Sight) : Type 0 where
@@ -46,8 +40,8 @@ pub record SeenTo (s : List ℕ) (k : Spot) (from at : ℕ) (e : Entry) (v : Sig
   pub keeps : Keeps s k v
 
 pub going_none :
-    (s : List ℕ) (k : Spot) (from : ℕ) (e : Entry) → from ≤ length s → SeenTo s k from from e (record { count = 0; first = k; second = from })
-going_none s k from e l = record { all = refl; keeps = record { first = refl; stands = inl refl; second = l } }
+    (s : List ℕ) (k : Spot) (from : ℕ) (e : Entry) → from ≤ length s → SeenTo s k from from e (record { first = k; times = Unseen })
+going_none s k from e l = record { all = refl; keeps = record { first = refl; stands = inl refl; second = tt } }
 
 pub going_all : {s : List ℕ} {k : Spot} {from at : ℕ} {e : Entry} {v : Sight} → SeenTo s k from at e v → boxes s at ≡ [] → Saw s k from e v
 going_all {s} {k} {from} {at} {e} {v} g o = record { all = sym (g.all ∙ seen_end s at (seen_of v) e o); keeps = g.keeps }
@@ -63,8 +57,8 @@ module _ (s : List ℕ) (at : ℕ) {h z k : ℕ} {l : Look} (e : l ≡ look s at
       let b : Spot = record { at = at; head = h; size = z } in
       rw (f, a)
       (record {
-        all = more true q ∙ ap (λ (y : _). seen_from y w (boxes s (at + z))) (sym (seen_again b v));
-        keeps = keeps_again b v (stands_here (found s at e t)) g.keeps;
+        all = more true q ∙ ap (λ (y : _). seen_from y w (boxes s (at + z))) (sym (seen_again b v.first v.times));
+        keeps = keeps_again b v.first v.times (stands_here (found s at e t)) g.keeps;
       })
 
   pub going_miss : {x : Sight} → wanted w k ≡ false → x ≡ v → SeenTo s c from (at + z) w x

@@ -1,6 +1,5 @@
 -- What is seen of an entry in a container, and what a container's counts come to.
-use Rattle.std.specs.Prelude.{ℕ, ◌≤◌, ◌≡◌, List, [], ◌∷◌, ◌⊎◌, length, eqb}
-use Rattle.numbers.specs.Numbers.{when}
+use Rattle.std.specs.Prelude.{ℕ, ◌≤◌, ◌≡◌, List, [], ◌∷◌, ◌⊎◌, length}
 use Rattle.rules.specs.Boxes.{boxes, kids}
 use Rattle.rules.specs.Rules.{PlacedUpTo}
 use Rattle.rules.specs.Counts.{seen, first_of, first_in, counts}
@@ -10,32 +9,45 @@ use Rattle.rules.specs.declared.Seen.TheVariants.{Never, Once, Twice}
 use Rattle.boxes.specs.Stands.{Stands}
 use Rattle.rules.specs.declared.Spot.{Spot}
 use Rattle.counts.specs.declared.Sight.{Sight}
+use Rattle.counts.specs.declared.Times.{Times}
+use Rattle.counts.specs.declared.Times.TheVariants.{Unseen, Single, Several}
 use Rattle.counts.specs.declared.Three.{Three}
 use Rattle.counts.specs.declared.Counted.{Counted}
 
--- what is seen, by how many boxes (2 stands for more) and the places of the first and the second
-abbrev pub seen_by : ℕ → ℕ → ℕ → Seen
-seen_by n a b = when (eqb n 0) Never (when (eqb n 1) (Once a) (Twice a b))
+-- what is seen, by how many boxes and the place of the first
+abbrev pub seen_by : Times → ℕ → Seen
+seen_by Unseen a = Never
+seen_by Single a = Once a
+seen_by (Several p) a = Twice a p
 
 -- the same of a sight
 abbrev pub seen_of : Sight → Seen
-seen_of v = seen_by v.count v.first.at v.second
+seen_of v = seen_by v.times v.first.at
+
+-- the place of the second box, where there is one, is up to n
+abbrev pub SecondUpTo : ℕ → Times → Type 0
+SecondUpTo n Unseen = Unit {0}
+SecondUpTo n Single = Unit {0}
+SecondUpTo n (Several p) = p ≤ n
 
 -- the first box stands in the slice, and the second's place is in it
 abbrev pub StandsIn : List ℕ → Sight → Type 0
-StandsIn m v = Stands m v.first × (v.second ≤ length m)
+StandsIn m v = Stands m v.first × SecondUpTo (length m) v.times
 
--- one more box, after those seen
+-- one more box, after those seen: by how many, and the first of them
+abbrev pub again_by : Spot → Times → Spot → Sight
+again_by x Unseen b = record { first = x; times = Single }
+again_by x Single b = record { first = b; times = Several x.at }
+again_by x (Several p) b = record { first = b; times = Several p }
+
 abbrev pub again_at : Spot → Sight → Sight
-again_at x v =
-    when (eqb v.count 0) (record { count = 1; first = x; second = v.second })
-    (when (eqb v.count 1) (record { count = 2; first = v.first; second = x.at }) v)
+again_at x v = again_by x v.times v.first
 
 -- the first box is the first one seen and stands in the slice, or is the container k; the second's place is in the slice
 pub record Keeps (s : List ℕ) (k : Spot) (v : Sight) : Type 0 where
   pub first : v.first.at ≡ first_of k.at (seen_of v)
   pub stands : (v.first ≡ k) ⊎ Stands s v.first
-  pub second : v.second ≤ length s
+  pub second : SecondUpTo (length s) v.times
 
 -- v is what is seen of an entry of the container k among the boxes of a slice from a place on
 pub record Saw (s : List ℕ) (k : Spot) (from : ℕ) (e : Entry) (v : Sight) : Type 0 where

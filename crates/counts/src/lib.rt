@@ -5,17 +5,24 @@ ghost use Rattle.std.specs.Prelude.{◌≡◌, ◌≤◌, [], ◌∷◌, length}
 ghost use Rattle.rules.specs.Rules.{PlacedUpTo};
 ghost use Rattle.rules.specs.Counts.{wanted, one_of, at_most_one_of, some_of, counted, counts, counts_if};
 ghost use Rattle.boxes.specs.Stands.{Stands};
-ghost use Rattle.counts.specs.Sights.{seen_by, seen_of, StandsIn, again_at, Tallied, Counts};
+ghost use Rattle.counts.specs.Sights.{seen_of, StandsIn, again_at, Tallied, Counts};
 
-use rules::{Entry, Look, Rule, Spot};
+use rules::{Entry, Look, Refusal, Rule, Spot};
 
-// What is seen of an entry: no box, one, or more (then the count is 2); the first of them, or the container where there is none;
-// and the place of the second, or the place where the container's boxes begin where there is none.
+// How many boxes of an entry are seen: none, one, or more, with the place of the second.
+#[derive(Clone, Copy)]
+pub enum Times {
+    Unseen,
+    Single,
+    Several(usize),
+}
+
+// What is seen of an entry: how many boxes, and the first of them, or the container where there is none.
+// The first is no part of `Times`: with `Single(Spot)` and `Several(Spot, usize)` a track takes 1.04 to 1.05 of the time.
 #[derive(Clone, Copy)]
 pub struct Sight {
-    pub count: usize,
     pub first: Spot,
-    pub second: usize,
+    pub times: Times,
 }
 
 // What a container's boxes come to: its counts as a rule, and what is seen of each entry.
@@ -28,6 +35,7 @@ pub struct Counted {
 }
 
 // Whether a box of a type is one that an entry counts.
+#[tactic(auto, unfolding(rules::specs::Counts::wanted))]
 fn wanted(e: Entry, kind: u32) -> bool
     ensures { result ≡ wanted e kind }
 {
@@ -36,104 +44,75 @@ fn wanted(e: Entry, kind: u32) -> bool
         Entry::One(w) => kind == w,
         Entry::AtMostOne(w) => kind == w,
         Entry::OneOrMore(w) => kind == w,
-        Entry::OneInAll(u, v, w) => {
-            if kind == u {
-                return true;
-            }
-            if kind == v {
-                return true;
-            }
-            kind == w
-        }
+        Entry::OneInAll(u, v, w) => kind == u || kind == v || kind == w,
     }
 }
 
-// What is seen after one box more, given by its numbers: the compiler then keeps them in registers.
-fn again_at(v: Sight, at: usize, head: usize, size: usize) -> Sight
-    ensures { result ≡ again_at (record { at = at; head = head; size = size }) v }
+// What is seen after one box more.
+fn again_at(v: Sight, x: Spot) -> Sight
+    ensures { result ≡ again_at x v }
 {
-    if v.count == 0 {
-        return Sight {
-            count: 1,
-            first: Spot { at, head, size },
-            second: v.second,
-        };
+    match v.times {
+        Times::Unseen => Sight {
+            first: x,
+            times: Times::Single,
+        },
+        Times::Single => Sight {
+            times: Times::Several(x.at),
+            ..v
+        },
+        Times::Several(_) => v,
     }
-    if v.count == 1 {
-        let first = v.first;
-        return Sight {
-            count: 2,
-            first,
-            second: at,
-        };
-    }
-    v
 }
 
-// One box, by how many were seen and the place of the second: the container's place if missing, the first extra box's if too many.
-// No count asks where the first stands: the contracts name the container's place for it.
-fn one_of(number: u64, container: usize, n: usize, p: usize) -> Rule
-    ensures { result ≡ one_of number container (seen_by n container p) }
+// One box: the container's place if missing, the first extra box's if too many.
+#[tactic(auto, unfolding(rules::specs::Counts::one_of))]
+fn one_of(number: u64, container: usize, v: Sight) -> Rule
+    ensures { result ≡ one_of number container (seen_of v) }
 {
-    if n == 0 {
-        return Rule::Breaks {
-            number,
-            track: 0,
-            place: container as u64,
-        };
-    }
-    if n == 1 {
-        return Rule::Holds;
-    }
-    Rule::Breaks {
-        number,
-        track: 0,
-        place: p as u64,
+    match v.times {
+        Times::Unseen => Err(Refusal::new(number, 0, container as u64)),
+        Times::Single => Ok(()),
+        Times::Several(second) => Err(Refusal::new(number, 0, second as u64)),
     }
 }
 
 // At most one.
-fn at_most_one_of(number: u64, n: usize, p: usize) -> Rule
-    ensures { result ≡ at_most_one_of number (seen_by n p p) }
+#[tactic(auto, unfolding(rules::specs::Counts::at_most_one_of))]
+fn at_most_one_of(number: u64, v: Sight) -> Rule
+    ensures { result ≡ at_most_one_of number (seen_of v) }
 {
-    if n <= 1 {
-        return Rule::Holds;
-    }
-    Rule::Breaks {
-        number,
-        track: 0,
-        place: p as u64,
+    match v.times {
+        Times::Unseen | Times::Single => Ok(()),
+        Times::Several(second) => Err(Refusal::new(number, 0, second as u64)),
     }
 }
 
 // One or more.
-fn some_of(number: u64, container: usize, n: usize) -> Rule
-    ensures { result ≡ some_of number container (seen_by n container container) }
+#[tactic(auto, unfolding(rules::specs::Counts::some_of))]
+fn some_of(number: u64, container: usize, v: Sight) -> Rule
+    ensures { result ≡ some_of number container (seen_of v) }
 {
-    if n == 0 {
-        return Rule::Breaks {
-            number,
-            track: 0,
-            place: container as u64,
-        };
+    match v.times {
+        Times::Unseen => Err(Refusal::new(number, 0, container as u64)),
+        Times::Single | Times::Several(_) => Ok(()),
     }
-    Rule::Holds
 }
 
-// The count of an entry in a container, by how many were seen and the place of the second.
-fn count_entry(number: u64, container: usize, e: Entry, n: usize, p: usize) -> Rule
-    ensures { result ≡ counted number container e (seen_by n container p) }
+// The count of an entry in a container, by what is seen of it.
+#[tactic(auto, unfolding(rules::specs::Counts::counted))]
+fn count_entry(number: u64, container: usize, e: Entry, v: Sight) -> Rule
+    ensures { result ≡ counted number container e (seen_of v) }
 {
     match e {
-        Entry::Nothing => Rule::Holds,
-        Entry::One(_) => one_of(number, container, n, p),
-        Entry::AtMostOne(_) => at_most_one_of(number, n, p),
-        Entry::OneOrMore(_) => some_of(number, container, n),
-        Entry::OneInAll(_, _, _) => one_of(number, container, n, p),
+        Entry::Nothing => Ok(()),
+        Entry::One(_) | Entry::OneInAll(_, _, _) => one_of(number, container, v),
+        Entry::AtMostOne(_) => at_most_one_of(number, v),
+        Entry::OneOrMore(_) => some_of(number, container, v),
     }
 }
 
-// What is seen of three entries.
+// What is seen of three entries. As arrays of three, with a `for` along them, `count_boxes` takes 1.04 of the instructions.
 #[derive(Clone, Copy)]
 struct Three {
     a: Sight,
@@ -147,34 +126,26 @@ fn tally(s: &[u8], k: Spot, from: usize, a: Entry, b: Entry, c: Entry) -> Three
     ensures { Tallied s.now k from a b c result }
 {
     let mut at = from;
-    let mut u = Sight {
-        count: 0,
+    let none = Sight {
         first: k,
-        second: from,
+        times: Times::Unseen,
     };
-    let mut v = Sight {
-        count: 0,
-        first: k,
-        second: from,
-    };
-    let mut x = Sight {
-        count: 0,
-        first: k,
-        second: from,
-    };
+    let mut u = none;
+    let mut v = none;
+    let mut x = none;
     loop {
-        let l = boxes::look(s, at);
-        let Look::Good { head, size, kind } = l else {
+        let Look::Good { head, size, kind } = boxes::look(s, at) else {
             return Three { a: u, b: v, c: x };
         };
+        let y = Spot { at, head, size };
         if wanted(a, kind) {
-            u = again_at(u, at, head, size);
+            u = again_at(u, y);
         }
         if wanted(b, kind) {
-            v = again_at(v, at, head, size);
+            v = again_at(v, y);
         }
         if wanted(c, kind) {
-            x = again_at(x, at, head, size);
+            x = again_at(x, y);
         }
         at += size;
     }
@@ -189,19 +160,12 @@ pub fn count_boxes(number: u64, m: &[u8], x: Spot, a: Entry, b: Entry, c: Entry)
     let from = at + x.head;
     let end = at + x.size;
     let t = tally(&m[..end], x, from, a, b, c);
-    let u = t.a;
-    let v = t.b;
-    let w = t.c;
-    let later = rules::first_broken(
-        count_entry(number, at, b, v.count, v.second),
-        count_entry(number, at, c, w.count, w.second),
-    );
-    let rule = rules::first_broken(count_entry(number, at, a, u.count, u.second), later);
+    let later = count_entry(number, at, b, t.b).and(count_entry(number, at, c, t.c));
     Counted {
-        rule,
-        a: u,
-        b: v,
-        c: w,
+        rule: count_entry(number, at, a, t.a).and(later),
+        a: t.a,
+        b: t.b,
+        c: t.c,
     }
 }
 
@@ -211,18 +175,18 @@ fn alone(number: u64, m: &[u8], x: Spot, e: Entry) -> Rule
     ensures value { result ≡ counts number m.now x.at (e ∷ []) }
     ensures placed_up_to { PlacedUpTo (length m.now) result }
 {
-    let all = count_boxes(number, m, x, e, Entry::Nothing, Entry::Nothing);
-    all.rule
+    count_boxes(number, m, x, e, Entry::Nothing, Entry::Nothing).rule
 }
 
 // The counts of one entry in a container that may be absent, by what is seen of it.
+#[tactic(auto, unfolding(rules::specs::Counts::counts_if))]
 pub fn counts_if(number: u64, m: &[u8], v: Sight, e: Entry) -> Rule
     requires { StandsIn m.now v }
     ensures value { result ≡ counts_if number m.now (seen_of v) (e ∷ []) }
     ensures placed_up_to { PlacedUpTo (length m.now) result }
 {
-    if v.count == 0 {
-        return Rule::Holds;
+    match v.times {
+        Times::Unseen => Ok(()),
+        Times::Single | Times::Several(_) => alone(number, m, v.first, e),
     }
-    alone(number, m, v.first, e)
 }

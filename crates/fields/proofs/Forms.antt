@@ -10,6 +10,9 @@ use Rattle.numbers.specs.Numbers.{byte, when}
 use Rattle.rules.specs.Fields.{short_size, version, either, plain, at_least, has_form}
 use Rattle.boxes.specs.Stands.{Stands}
 use Rattle.rules.specs.declared.Spot.{Spot}
+use Rattle.std.specs.Prelude.{Option, None, Some}
+use Rattle.fields.specs.Versions.{SaysVersion}
+use Rattle.fields.specs.declared.Version.{Version}
 
 module _ (s : List ℕ) (b : Spot) (st : Stands s b) where
   -- the size with the short header, by the bytes behind the header
@@ -50,6 +53,15 @@ module _ (s : List ℕ) (b : Spot) (st : Stands s b) where
       go false true p q = not_of_size c k (λ e. g e (sym version_is ∙ eqb-true (version s b.at) 1 q))
       go false false p q = refl
 
+  -- a body whose two versions have one size
+  pub has_version : (a : ℕ) {r : Option Version} {v : Version} → SaysVersion r s b a a → r ≡ Some v
+      → (has_form (either a a) s b.at ≡ true) × (b.size + 8 ≡ b.head + a)
+  has_version a {v = v} k e = go v (rw e at k)
+    where
+      go : (v : Version) → SaysVersion (Some v) s b a a → (has_form (either a a) s b.at ≡ true) × (b.size + 8 ≡ b.head + a)
+      go Version.Zero h = (h.0, h.2)
+      go Version.One h = (h.0, h.2)
+
   -- version 0 and a size
   pub plain_is : (a : ℕ) → 8 ≤ a → b.size - b.head ≡ a - 8 → has_form (plain a) s b.at ≡ eqb (byte s (b.at + b.head)) 0
   unfolding has_form
@@ -77,3 +89,14 @@ module _ (s : List ℕ) (b : Spot) (st : Stands s b) where
       go false false p q = refl
       go true false p q = let z : ⊥ = omega (arith, leb-true a (b.size - b.head + 8) p, leb-false (a - 8) (b.size - b.head) q) in absurd z
       go false true p q = let z : ⊥ = omega (arith, leb-true (a - 8) (b.size - b.head) q, leb-false a (b.size - b.head + 8) p) in absurd z
+
+-- a body of two versions, by what its reader answered
+module _ (s : List ℕ) (b : Spot) (a c : ℕ) {v : Option Version} (h : SaysVersion v s b a c) where
+  pub as_zero : v ≡ Some Version.Zero → (has_form (either a c) s b.at ≡ true) × (version s b.at ≡ 0) × (b.size + 8 ≡ b.head + a)
+  as_zero e = rw e at h
+
+  pub as_one : v ≡ Some Version.One → (has_form (either a c) s b.at ≡ true) × (version s b.at ≡ 1) × (b.size + 8 ≡ b.head + c)
+  as_one e = rw e at h
+
+  pub as_none : v ≡ None → has_form (either a c) s b.at ≡ false
+  as_none e = rw e at h

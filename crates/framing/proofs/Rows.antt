@@ -16,10 +16,9 @@ use Rattle.rules.proofs.Forest.{never, FoundBox, forest_nothing, forest_short, f
 use Rattle.rules.specs.declared.Path.{Path}
 use Rattle.rules.specs.declared.Look.{Look}
 use Rattle.rules.specs.declared.Look.TheVariants.{Nothing, Short, Small, Beyond, Good}
-use Rattle.rules.specs.declared.Framing.{Framing}
-use Rattle.rules.specs.declared.Framing.TheVariants.{Framed, Misframed}
+use Rattle.rules.specs.Rules.{Framing, unframed}
+use Rattle.std.specs.Prelude.{Option, Some, Ok, Err}
 use Rattle.framing.specs.declared.Wrote.{Wrote}
-use Rattle.framing.specs.declared.Wrote.TheVariants.{Past}
 use Rattle.framing.specs.Steps.{Writes}
 use Rattle.framing.proofs.Steps.{box_at}
 
@@ -33,12 +32,12 @@ pub sets_four : (t : List ℕ) (i a b c d : ℕ) → set (set (set (set t i a) (
 sets_four t i a b c d = rw (add-one i, add-two i, add-three i)
 
 -- four numbers a box: what is framed with n boxes before it and m after it has m - n of them
-pub rows_length : (f : Forest) (base n d m : ℕ) → framing f base n ≡ Framed m → 4 * n + length (rows f base d) ≡ 4 * m
+pub rows_length : (f : Forest) (base n d m : ℕ) → framing f base n ≡ Ok m → 4 * n + length (rows f base d) ≡ 4 * m
 unfolding framing rule5 rows
 rows_length end base n d m e = let q : n ≡ m = cc in omega arith
 rows_length (bad k p) base n d m e = by (leb box_limit n) e
   where
-    by : (b : Bool) → when b (Misframed 5 (base + p)) (Misframed k (base + p)) ≡ Framed m → 4 * n + 0 ≡ 4 * m
+    by : (b : Bool) → when b (unframed 5 (base + p)) (unframed k (base + p)) ≡ Ok m → 4 * n + 0 ≡ 4 * m
     by true e = never (cc)
     by false e = never (cc)
 rows_length (node x i r) base n d m e = by (leb box_limit n) (framing i inner (n + 1)) refl e (rows_length i inner (n + 1) (d + 1)) (λ k. rows_length r base k d m)
@@ -48,19 +47,19 @@ rows_length (node x i r) base n d m e = by (leb box_limit n) (framing i inner (n
 
     by :
         (b : Bool) (f : Framing) → framing i inner (n + 1) ≡ f →
-        when b (Misframed 5 (base + x.at)) (on_framing f (λ m. framing r base m) (λ k p. Misframed k p)) ≡ Framed m →
-        ((k : ℕ) → framing i inner (n + 1) ≡ Framed k → 4 * (n + 1) + length (rows i inner (d + 1)) ≡ 4 * k) →
-        ((k : ℕ) → framing r base k ≡ Framed m → 4 * k + length (rows r base d) ≡ 4 * m) →
+        when b (unframed 5 (base + x.at)) (on_framing f (λ m. framing r base m) (λ k p. unframed k p)) ≡ Ok m →
+        ((k : ℕ) → framing i inner (n + 1) ≡ Ok k → 4 * (n + 1) + length (rows i inner (d + 1)) ≡ 4 * k) →
+        ((k : ℕ) → framing r base k ≡ Ok m → 4 * k + length (rows r base d) ≡ 4 * m) →
         4 * n + suc (suc (suc (suc (length (rows i inner (d + 1) ++ rows r base d))))) ≡ 4 * m
     by true f p e u v = never (cc)
-    by false (Framed k) p e u v = omega (arith, u k p, v k e, length-append (rows i inner (d + 1)) (rows r base d))
-    by false (Misframed k q) p e u v = never (cc)
+    by false (Ok k) p e u v = omega (arith, u k p, v k e, length-append (rows i inner (d + 1)) (rows r base d))
+    by false (Err b) p e u v = never (cc)
 
 -- a writing whose variant is known
 pub known :
-    {r q : Wrote} (s : List ℕ) (at : ℕ) (path : Path) (base d row : ℕ) (t u : List ℕ) → r ≡ q →
+    {r q : Option Wrote} (s : List ℕ) (at : ℕ) (path : Path) (base d row : ℕ) (t u : List ℕ) → r ≡ q →
     Writes r s at path base d row t u → Writes q s at path base d row t u
-known s at path base d row t u e h = subst (λ (x : Wrote). Writes x s at path base d row t u) e h
+known s at path base d row t u e h = subst (λ (x : Option Wrote). Writes x s at path base d row t u) e h
 
 module _ (path : Path) (s : List ℕ) (at base d : ℕ) where
   -- where no box is framed there is nothing to write
@@ -97,7 +96,7 @@ module _ (path : Path) (s : List ℕ) (at base d : ℕ) where
     pub writes_box :
         (row m : ℕ) (t u v : List ℕ) → u ≡ sets t row ((base + at) ∷ z ∷ k ∷ d ∷ []) →
         v ≡ sets u (row + 4) (rows i (base + at + h) (d + 1)) → m ≡ row + 4 + length (rows i (base + at + h) (d + 1)) →
-        Writes (Past (at + z) m) s at path base d row t v
+        Writes (Some (record { next = at + z; row = m })) s at path base d row t v
     writes_box row m t u v p q w = (
       ap (sets t row) rows_box
           ∙ sets_append four (suc (suc (suc (suc row)))) inner rest
@@ -126,6 +125,6 @@ module _ (path : Path) (s : List ℕ) (at base d : ℕ) where
   -- past a leaf: nothing is inside it
   pub writes_leaf :
       {h z k : ℕ} (row : ℕ) (t u : List ℕ) → FoundBox s at h z k → forest path s at ≡ box_at path s at h z k end →
-      u ≡ sets t row ((base + at) ∷ z ∷ k ∷ d ∷ []) → Writes (Past (at + z) (row + 4)) s at path base d row t u
+      u ≡ sets t row ((base + at) ∷ z ∷ k ∷ d ∷ []) → Writes (Some (record { next = at + z; row = row + 4 })) s at path base d row t u
   unfolding rows
   writes_leaf row t u f e p = writes_box f e row (row + 4) t u u p refl (omega arith)

@@ -3,14 +3,14 @@
 
 ghost use Rattle.std.specs.Prelude.{◌≡◌, [], ◌∷◌, ◌+◌, ◌≤◌, length};
 ghost use Rattle.std.proofs.lemmas.List.Edits.{sets};
-ghost use Rattle.rules.specs.Boxes.{forest};
+ghost use Rattle.rules.specs.Boxes.{look, forest};
 ghost use Rattle.rules.specs.Framing.{framing, framed, rows};
 ghost use Rattle.rules.specs.Jobs.{Permits};
 ghost use Rattle.rules.specs.Track.{index_outcome};
 ghost use Rattle.rules.specs.declared.Path.TheVariants.{Top};
-ghost use Rattle.framing.specs.Steps.{InReach, Read, broken_at, passed_to, Writes};
+ghost use Rattle.framing.specs.Steps.{InReach, past_header, PastBounds, Read, Writes, indexed};
 
-use rules::{Framing, Inside, Look, Path, Verdict};
+use rules::{Framing, Look, Misframed, Path, Refusal, Verdict, must};
 
 // Rule 1: the bytes of a slice.
 pub const BYTE_LIMIT: usize = 1073741824;
@@ -18,84 +18,62 @@ pub const BYTE_LIMIT: usize = 1073741824;
 // Rule 5: the boxes of a slice.
 pub const BOX_LIMIT: usize = 65536;
 
-// What reading one box comes to: past it, with what its header tells and the boxes so far; no byte left; or a refusal.
+// A box that was read: its header's length, its whole size and its type, and the boxes up to its end.
 #[derive(Clone, Copy)]
-pub enum Step {
-    Past {
-        head: usize,
-        size: usize,
-        kind: u32,
-        boxes: usize,
-    },
-    Nothing,
-    Refused {
-        number: u64,
-        place: usize,
-    },
+pub struct Past {
+    pub head: usize,
+    pub size: usize,
+    pub kind: u32,
+    pub boxes: usize,
 }
 
-// The step where no box is framed.
-fn broken_step(l: Look, place: usize) -> Step
-    ensures { result ≡ broken_at l place }
+// What reading one box comes to: past it; no byte left; or a refusal.
+pub type Step = Result<Option<Past>, Misframed>;
+
+// What stands at a place of a run whose slice starts at a base, with n boxes before it: the step past it, if nothing is inside it.
+fn header_at(s: &[u8], at: usize, base: usize, n: usize) -> Step
+    requires { InReach base s.now }
+    ensures value { result ≡ past_header (look s.now at) (base + at) n }
+    ensures past_bounds { PastBounds result (length s.now) at }
 {
-    match l {
-        Look::Nothing => Step::Nothing,
-        Look::Short => Step::Refused { number: 2, place },
-        Look::Small => Step::Refused { number: 3, place },
-        Look::Beyond => Step::Refused { number: 4, place },
-        Look::Good {
-            head: _,
-            size: _,
-            kind: _,
-        } => Step::Nothing,
+    if s.len() <= at {
+        return Ok(None);
     }
-}
-
-// The step past a container, by how its run is framed.
-fn passed_to(inner: Framing, head: usize, size: usize, kind: u32) -> Step
-    ensures { result ≡ passed_to inner head size kind }
-{
-    match inner {
-        Framing::Framed(boxes) => Step::Past {
+    let place = base + at;
+    if BOX_LIMIT <= n {
+        return Err(Misframed { number: 5, place });
+    }
+    match boxes::look(s, at) {
+        Look::Nothing => Ok(None),
+        Look::Short => Err(Misframed { number: 2, place }),
+        Look::Small => Err(Misframed { number: 3, place }),
+        Look::Beyond => Err(Misframed { number: 4, place }),
+        Look::Good { head, size, kind } => Ok(Some(Past {
             head,
             size,
             kind,
-            boxes,
-        },
-        Framing::Misframed { number, place } => Step::Refused { number, place },
+            boxes: n + 1,
+        })),
     }
 }
 
 // Reads the box at a place of a run whose slice starts at a base, with n boxes before it, and what is inside it: a step of `read_run`, which calls it
-// and which it calls.
+// and which it calls. With slice, path and base as one struct the index takes 1.10 of the instructions.
 #[cycle(next_box_read_run)]
 fn next_box(s: &[u8], at: usize, path: Path, base: usize, n: usize) -> Step
     requires { InReach base s.now }
     ensures { Read result s.now at path base n }
 {
-    if s.len() <= at {
-        return Step::Nothing;
-    }
-    let place = base + at;
-    if BOX_LIMIT <= n {
-        return Step::Refused { number: 5, place };
-    }
-    let l = boxes::look(s, at);
-    let Look::Good { head, size, kind } = l else {
-        return broken_step(l, place);
+    let Some(next) = header_at(s, at, base, n)? else {
+        return Ok(None);
     };
-    let next = at + size;
-    let Inside::Container(inner) = boxes::inside(path, kind) else {
-        return Step::Past {
-            head,
-            size,
-            kind,
-            boxes: n + 1,
-        };
+    let Some(inner) = boxes::inside(path, next.kind) else {
+        return Ok(Some(next));
     };
-    let from = at + head;
-    let framed = read_run(&s[from..next], inner, place + head, n + 1);
-    passed_to(framed, head, size, kind)
+    let body = &s[at + next.head..at + next.size];
+    let start = base + at + next.head;
+    let boxes = read_run(body, inner, start, next.boxes)?;
+    Ok(Some(Past { boxes, ..next }))
 }
 
 // Reads a run of boxes, from the start of a slice that starts at a base to its end, with n boxes before it.
@@ -107,50 +85,30 @@ pub fn read_run(s: &[u8], path: Path, base: usize, n: usize) -> Framing
     let mut at = 0;
     let mut count = n;
     loop {
-        match next_box(s, at, path, base, count) {
-            Step::Past { size, boxes, .. } => {
-                at += size;
-                count = boxes;
-            }
-            Step::Nothing => {
-                return Framing::Framed(count);
-            }
-            Step::Refused { number, place } => {
-                return Framing::Misframed { number, place };
-            }
-        }
+        let Some(past) = next_box(s, at, path, base, count)? else {
+            return Ok(count);
+        };
+        at += past.size;
+        count = past.boxes;
     }
 }
 
 // Reads the box as `next_box` does, outside that cycle, for callers that read one box: the compiler puts it into them.
+// Were `next_box` called from here, the index would take 1.45 of the instructions and a track of 10 KiB 1.15.
 pub fn read_box(s: &[u8], at: usize, path: Path, base: usize, n: usize) -> Step
     requires { InReach base s.now }
     ensures { Read result s.now at path base n }
 {
-    if s.len() <= at {
-        return Step::Nothing;
-    }
-    let place = base + at;
-    if BOX_LIMIT <= n {
-        return Step::Refused { number: 5, place };
-    }
-    let l = boxes::look(s, at);
-    let Look::Good { head, size, kind } = l else {
-        return broken_step(l, place);
+    let Some(past) = header_at(s, at, base, n)? else {
+        return Ok(None);
     };
-    let next = at + size;
-    let boxes = n + 1;
-    let Inside::Container(inner) = boxes::inside(path, kind) else {
-        return Step::Past {
-            head,
-            size,
-            kind,
-            boxes,
-        };
+    let Some(inner) = boxes::inside(path, past.kind) else {
+        return Ok(Some(past));
     };
-    let from = at + head;
-    let framed = read_run(&s[from..next], inner, place + head, boxes);
-    passed_to(framed, head, size, kind)
+    let body = &s[at + past.head..at + past.size];
+    let start = base + at + past.head;
+    let boxes = read_run(body, inner, start, past.boxes)?;
+    Ok(Some(Past { boxes, ..past }))
 }
 
 // Reads the box at a place of the top level, with n boxes before it, and what is inside it.
@@ -168,11 +126,11 @@ pub fn frame(s: &[u8]) -> Framing
     read_run(s, Path::Top, 0, 0)
 }
 
-// What writing one box comes to: past it, with the next place of the slice and of the table; or no box is there.
+// Past a box that was written: the next place of the slice and of the table.
 #[derive(Clone, Copy)]
-enum Wrote {
-    Past { next: usize, row: usize },
-    Done,
+struct Wrote {
+    next: usize,
+    row: usize,
 }
 
 // Writes four numbers from a place of the table.
@@ -196,24 +154,26 @@ fn write_box(
     depth: u64,
     t: &mut [u64],
     row: usize,
-) -> Wrote
+) -> Option<Wrote>
     requires in_reach { InReach base s.now }
     requires depth_le_base { depth ≤ base }
     requires depth_in_bounds { row + length (rows (forest path s.now at) base depth) ≤ length t.old }
     ensures { Writes result s.now at path base depth row t.old t.new }
 {
     let Look::Good { head, size, kind } = boxes::look(s, at) else {
-        return Wrote::Done;
+        return None;
     };
     let place = base + at;
     put(t, row, place as u64, size as u64, kind as u64, depth);
     let next = at + size;
-    let Inside::Container(inner) = boxes::inside(path, kind) else {
-        return Wrote::Past { next, row: row + 4 };
+    let row = match boxes::inside(path, kind) {
+        None => row + 4,
+        Some(inner) => {
+            let from = at + head;
+            write_run(&s[from..next], inner, place + head, depth + 1, t, row + 4)
+        }
     };
-    let from = at + head;
-    let end = write_run(&s[from..next], inner, place + head, depth + 1, t, row + 4);
-    Wrote::Past { next, row: end }
+    Some(Wrote { next, row })
 }
 
 // Writes the index of a run of boxes from a place of the table; answers the place after it.
@@ -228,39 +188,37 @@ fn write_run(s: &[u8], path: Path, base: usize, depth: u64, t: &mut [u64], row: 
     let mut at = 0;
     let mut to = row;
     loop {
-        match write_box(s, at, path, base, depth, t, to) {
-            Wrote::Past { next, row } => {
-                at = next;
-                to = row;
-            }
-            Wrote::Done => {
-                return to;
-            }
-        }
+        let Some(past) = write_box(s, at, path, base, depth, t, to) else {
+            return to;
+        };
+        at = past.next;
+        to = past.row;
     }
+}
+
+// Rules 1 to 5 over a slice, then room, and the index: four numbers a box, as many boxes as it answers.
+fn write_index(s: &[u8], t: &mut [u64]) -> Result<usize, Refusal>
+    ensures { Permits index_outcome s.now t.old (indexed result) t.new }
+{
+    must(s.len() <= BYTE_LIMIT, 1, 0)?;
+    let boxes = frame(s)?;
+    must(boxes <= t.len() / 4, 23, 0)?;
+    write_run(s, Path::Top, 0, 0, t, 0);
+    Ok(boxes)
 }
 
 // The index job: rules 1 to 5, then room; four numbers a box, or no number.
 pub fn index_job(s: &[u8], t: &mut [u64]) -> Verdict
     ensures { Permits index_outcome s.now t.old result t.new }
 {
-    if BYTE_LIMIT < s.len() {
-        return rules::refusal(1, 0, 0);
-    }
-    match frame(s) {
-        Framing::Misframed { number, place } => rules::refusal(number, 0, place as u64),
-        Framing::Framed(boxes) => {
-            if t.len() / 4 < boxes {
-                return rules::refusal(23, 0, 0);
-            }
-            write_run(s, Path::Top, 0, 0, t, 0);
-            Verdict {
-                number: 0,
-                track: 0,
-                place: 0,
-                count: boxes as u64,
-                timescale: 0,
-            }
-        }
+    match write_index(s, t) {
+        Ok(boxes) => Verdict {
+            number: 0,
+            track: 0,
+            place: 0,
+            count: boxes as u64,
+            timescale: 0,
+        },
+        Err(e) => Verdict::from(e),
     }
 }

@@ -11,7 +11,7 @@ use borrow.Author.Tests.{le-leb, lt-leb, eq-eqb, ne_eqb}
 use Rattle.numbers.specs.Numbers.{be4}
 use Rattle.rules.specs.Fields.{short_size, field, has_form}
 use Rattle.rules.specs.Header.{is_brand, branded, brands, ftyp_in}
-use Rattle.rules.specs.declared.Ftyp.TheVariants.{Branded, Wrong}
+use Rattle.std.specs.Prelude.{None, Some}
 use Rattle.boxes.specs.Stands.{WholeBox}
 
 -- one more test
@@ -55,24 +55,27 @@ module _ (f : List ℕ) (h : ℕ) (w : WholeBox f h) where
   short = rw (w.head, w.size)
 
   -- the forms that are wrong
-  pub too_small : length f - h < 8 → Wrong ≡ ftyp_in f
+  pub too_small : length f - h < 8 → None ≡ ftyp_in f
   unfolding ftyp_in has_form
   too_small l = rw (lt-leb 16 (short_size f 0) (omega (arith, short)))
 
-  pub no_fours : ((length f - h - 8) % 4 ≡ 0 → ⊥) → 8 ≤ length f - h → Wrong ≡ ftyp_in f
+  pub no_fours : ((length f - h - 8) % 4 ≡ 0 → ⊥) → 8 ≤ length f - h → None ≡ ftyp_in f
   unfolding ftyp_in has_form
   no_fours n l =
       rw (le-leb 16 (short_size f 0) (omega (arith, short)), ne_eqb ((short_size f 0 - 16) % 4) 0 (λ e. n (ap (λ (k : ℕ). k % 4) (omega (arith, short)) ∙ e)))
 
   -- the right form, with or without one of the two
   module _ (l : 8 ≤ length f - h) (r : (length f - h - 8) % 4 ≡ 0) where
-    formed : ftyp_in f ≡ Branded (branded f ((length f - h - 8) / 4))
+    formed : ftyp_in f ≡ Some (branded f ((length f - h - 8) / 4))
     unfolding ftyp_in has_form brands
     formed =
         rw (le-leb 16 (short_size f 0) (omega (arith, short)), eq-eqb ((short_size f 0 - 16) % 4) 0 (ap (λ (k : ℕ). k % 4) (omega (arith, short)) ∙ r), w.head, w.size)
 
-    pub found : (i : ℕ) {x : ℕ} {b : Bool} → x ≡ be4 f (h + 8 + 4 * i) → b ≡ is_brand x → b ≡ true → i < (length f - h - 8) / 4 → Branded true ≡ ftyp_in f
-    found i e t y k = sym (formed ∙ ap Branded (more (suc i) _ (one_more i e t y) k))
+    pub found : (i : ℕ) {x : ℕ} {b : Bool} → x ≡ be4 f (h + 8 + 4 * i) → b ≡ is_brand x → b ≡ true → i < (length f - h - 8) / 4 → Some true ≡ ftyp_in f
+    found i e t y k = sym (formed ∙ ap Some (more (suc i) _ (one_more i e t y) k))
 
-    pub found_none : (i : ℕ) → branded f i ≡ false → i ≡ (length f - h - 8) / 4 → Branded false ≡ ftyp_in f
-    found_none i p e = sym (formed ∙ ap Branded (ap (branded f) (sym e) ∙ p))
+    pub found_none : (i : ℕ) → branded f i ≡ false → i ≡ (length f - h - 8) / 4 → Some false ≡ ftyp_in f
+    found_none i p e = sym (formed ∙ ap Some (ap (branded f) (sym e) ∙ p))
+
+-- what `read_ftyp` goes by
+pub ruleset compatible = (too_small, no_fours, none_yet, none_more, found, found_none)

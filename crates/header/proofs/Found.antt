@@ -3,11 +3,11 @@ use mathlib.Core.Path.{◌≡◌, refl, ap, ◌∙◌}
 use mathlib.Core.List.{List, [], ◌∷◌, ◌++◌}
 use Prim.Native.Nat.{ℕ}
 use lib.ListN.{length}
-use Rattle.rules.specs.Rules.{◌then◌, PlacedUpTo}
+use Rattle.std.specs.Result.{result_and}
+use Rattle.rules.specs.Rules.{◌then◌, PlacedUpTo, Rule}
 use Rattle.rules.specs.Boxes.{kids}
 use Rattle.rules.specs.Counts.{seen, first_in, counts, counts_if}
 use Rattle.rules.specs.declared.Entry.{Entry}
-use Rattle.rules.specs.declared.Rule.{Rule}
 use Rattle.rules.specs.declared.Seen.{Seen}
 use Rattle.boxes.specs.Stands.{WholeBox, StandsAt}
 use Rattle.rules.specs.declared.Spot.{Spot}
@@ -15,6 +15,7 @@ use Rattle.counts.specs.Sights.{seen_of, Sighted, Counts}
 use Rattle.counts.specs.declared.Sight.{Sight}
 use Rattle.counts.specs.declared.Counted.{Counted}
 use Rattle.counts.proofs.Firsts.{counts_join}
+use Rattle.rules.proofs.Then.{then_assoc}
 use Rattle.rules.proofs.Untracked.{then_is}
 use Rattle.header.specs.Places.{Judges}
 
@@ -56,3 +57,17 @@ pub judged_join : {m : List ℕ} (p : ℕ) (es fs : List Entry) {r s t : Rule} �
 judged_join {m} p es fs e a b =
     let j = judged_then e a b in
     record { is = j.is ∙ counts_join 7 m p es fs; low = j.low }
+
+-- rules that std's `and` joins
+pub joined : (r s : Rule) {t : Rule} → t ≡ result_and r s → t ≡ (r then s)
+unfolding ◌then◌
+joined r s e = e
+
+-- counts that come to the same
+pub judged_as : {m : List ℕ} {p q t : Rule} → Judges m p t → p ≡ q → Judges m q t
+judged_as j e = record { is = j.is ∙ e; low = j.low }
+
+-- rules may be grouped
+pub regrouped : (a b c d e f g h : Rule) →
+    (((a then ((b then c) then d)) then ((e then f) then g)) then h) ≡ (a then b then c then d then e then f then g then h)
+regrouped a b c d e f g h = simp then_assoc

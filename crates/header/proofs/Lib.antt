@@ -1,4 +1,3 @@
-pub mod Spelt
 pub mod Compatible
 pub mod Read
 pub mod Eight

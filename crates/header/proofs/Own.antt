@@ -1,17 +1,17 @@
 -- The header's rules break on track 0, each being a rule of one track by itself, and at a place of `moov`.
-use mathlib.Core.Path.{◌≡◌, refl, ◌∙◌, ap, subst}
+use mathlib.Core.Path.{◌≡◌, refl, subst}
 use mathlib.Core.List.{List}
 use mathlib.Core.Bool.{Bool, true, false}
 use Prim.Native.Nat.{ℕ, ◌≤◌}
 use native.Mathlib.Omega.{arith}
 use lib.ListN.{length}
-use Rattle.rules.specs.Rules.{◌then◌, must, PlacedUpTo}
+use Rattle.rules.specs.Rules.{◌then◌, must, PlacedUpTo, Rule}
 use Rattle.rules.specs.Fields.{body}
 use Rattle.rules.specs.Counts.{counts, counts_if}
 use Rattle.rules.specs.Header.{rule7, rule8, rule10, rule11, rule12, rule13, rules_of_values}
 use Rattle.rules.specs.declared.Entry.{Entry}
-use Rattle.rules.specs.declared.Rule.{Rule}
-use Rattle.rules.specs.declared.Rule.TheVariants.{Holds, Breaks}
+use Rattle.std.specs.Prelude.{Ok, Err}
+use Rattle.rules.specs.declared.Refusal.{Refusal}
 use Rattle.rules.specs.declared.Seen.{Seen}
 use Rattle.rules.specs.declared.Seen.TheVariants.{Never, Once, Twice}
 use Rattle.rules.proofs.Untracked.{Untracked, then_is, counts_untracked}
@@ -40,18 +40,16 @@ own7 m =
 
 -- a rule that holds, or breaks on track 0 at a place up to n
 abbrev pub Fair : ℕ → Rule → Type 0
-Fair n Holds = Unit {0}
-Fair n (Breaks k t p) = (t ≡ 0) × (p ≤ n)
+Fair n (Ok u) = Unit {0}
+Fair n (Err e) = (e.track ≡ 0) × (e.place ≤ n)
 
 pub fair : (n : ℕ) (r : Rule) → Untracked r → PlacedUpTo n r → Fair n r
-fair n Holds o l = tt
-fair n (Breaks k t p) o l = (o, l)
+fair n (Ok u) o l = tt
+fair n (Err e) o l = (o, l)
 
 -- the track and the place of a broken one
-pub fair_broken : (n : ℕ) {k t p : ℕ} {r : Rule} → Fair n r → r ≡ Breaks k t p → (r ≡ Breaks k 0 p) × (p ≤ n)
-fair_broken n {k} {t} {p} f e =
-    let g : Fair n (Breaks k t p) = subst (Fair n) e f in
-    (e ∙ ap (λ (i : ℕ). Breaks k i p) g.0, g.1)
+pub fair_broken : (n : ℕ) {e : Refusal} {r : Rule} → Fair n r → r ≡ Err e → (e.track ≡ 0) × (e.place ≤ n)
+fair_broken n f is = subst (Fair n) is f
 
 -- a test at a box that stands in `moov`, and one before other rules
 module _ {m : List ℕ} {b : Spot} (st : Stands m b) (t : Bool) (k : ℕ) where

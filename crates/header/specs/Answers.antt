@@ -1,10 +1,10 @@
 -- What the header check's answers say: this paper's number and values for every one of them.
-use Rattle.std.specs.Prelude.{ℕ, ◌+◌, ◌≤◌, ◌≡◌, List}
+use Rattle.std.specs.Prelude.{Bool, ℕ, ◌+◌, ◌≤◌, ◌≡◌, List, Option, Result, Ok, Err}
 use Rattle.rules.specs.Header.{header_rules, header_in, places_in}
-use Rattle.rules.specs.declared.Ftyp.{Ftyp}
-use Rattle.rules.specs.declared.Rule.TheVariants.{Holds, Breaks}
+use Rattle.rules.specs.Rules.{breaks}
 use Rattle.header.specs.declared.HeaderFacts.{HeaderFacts}
-use Rattle.header.specs.declared.HeaderAnswer.{HeaderAnswer}
+use Rattle.header.specs.declared.HeaderFault.{HeaderFault}
+use Rattle.header.specs.declared.HeaderFault.TheVariants.{OfFtyp, OfMoov}
 
 -- what the facts of a good header are
 pub record FactsIn (m : List ℕ) (x : HeaderFacts) : Type 0 where
@@ -12,14 +12,14 @@ pub record FactsIn (m : List ℕ) (x : HeaderFacts) : Type 0 where
   pub mdhd : x.mdhd ≡ (places_in m).mdhd
   pub hdlr : x.hdlr ≡ (places_in m).hdlr
 
--- wherever `moov` stands: the rules hold, with the header's facts; or they break at `ftyp`; or at a place of `moov`
-abbrev pub HeadsAs : HeaderAnswer → Ftyp → List ℕ → Type 0
-HeadsAs (HeaderAnswer.Good x) f m = FactsIn m x × ((base : ℕ) → header_rules base f m ≡ Holds)
-HeadsAs (HeaderAnswer.OfFtyp n) f m = (base : ℕ) → header_rules base f m ≡ Breaks n 0 0
-HeadsAs (HeaderAnswer.OfMoov n p) f m = (base : ℕ) → header_rules base f m ≡ Breaks n 0 (base + p)
+-- wherever `moov` stands: the rules hold, with the header's facts; or they break at `ftyp`; or at a place of `moov`, as a rule of one track
+abbrev pub HeadsAs : Result HeaderFacts HeaderFault → Option Bool → List ℕ → Type 0
+HeadsAs (Ok x) f m = FactsIn m x × ((base : ℕ) → header_rules base f m ≡ Ok tt)
+HeadsAs (Err (OfFtyp n)) f m = (base : ℕ) → header_rules base f m ≡ breaks n 0 0
+HeadsAs (Err (OfMoov e)) f m = (e.track ≡ 0) × ((base : ℕ) → header_rules base f m ≡ breaks e.number e.track (base + e.place))
 
 -- the places told are at most n
-abbrev pub HeadsUpTo : HeaderAnswer → ℕ → Type 0
-HeadsUpTo (HeaderAnswer.Good x) n = (x.mdhd ≤ n) × (x.hdlr ≤ n)
-HeadsUpTo (HeaderAnswer.OfFtyp k) n = Unit {0}
-HeadsUpTo (HeaderAnswer.OfMoov k p) n = p ≤ n
+abbrev pub HeadsUpTo : Result HeaderFacts HeaderFault → ℕ → Type 0
+HeadsUpTo (Ok x) n = (x.mdhd ≤ n) × (x.hdlr ≤ n)
+HeadsUpTo (Err (OfFtyp k)) n = Unit {0}
+HeadsUpTo (Err (OfMoov e)) n = e.place ≤ n

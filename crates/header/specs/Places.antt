@@ -1,12 +1,11 @@
 -- Where the header's boxes stand in `moov`, and what its containers count.
 use Rattle.std.specs.Prelude.{ℕ, ◌≡◌, List, length}
 use Rattle.rules.specs.Kinds.{tkhd, edts, mdhd, hdlr, stsd, stts, stsc, stsz, stco}
-use Rattle.rules.specs.Rules.{PlacedUpTo}
+use Rattle.rules.specs.Rules.{PlacedUpTo, Rule}
 use Rattle.rules.specs.Boxes.{kids}
 use Rattle.rules.specs.Counts.{seen, first_in, child, counts, counts_if}
 use Rattle.rules.specs.Header.{entries_in_trak, entries_in_edts, entries_in_mdia, entries_in_minf, entries_in_dinf, entries_in_stbl, media, trak_in, mdia_in, minf_in, dinf_in, stbl_in, rule7, places_in}
 use Rattle.rules.specs.declared.Entry.TheVariants.{AtMostOne}
-use Rattle.rules.specs.declared.Rule.{Rule}
 use Rattle.rules.specs.declared.Places.{Places}
 use Rattle.boxes.specs.Stands.{Stands, StandsAt}
 use Rattle.header.specs.declared.containers.InTrak.{InTrak}

@@ -1,33 +1,19 @@
-// Rule 8 in `moov`: one reader a body, which answers what later rules need of it, or that it is wrong.
-ghost use Rattle.std.specs.Prelude.{◌+◌, ◌≤◌};
+// Rule 8 in `moov`: one reader a body, which answers what later rules need of it, or nothing where the body has another form.
+ghost use Rattle.std.specs.Prelude.{◌≡◌, ◌+◌, ◌≤◌};
 ghost use Rattle.rules.specs.Fields.{either, at_least, field, timed};
 ghost use Rattle.boxes.specs.Stands.{Stands};
 ghost use Rattle.header.specs.Places.{LocatedIn};
 ghost use Rattle.header.specs.Bodies.{SaysMvhd, SaysBody, SaysTrex, HeadsIn, BodiesAs};
 
 use crate::containers::Located;
-use fields::Version;
-use rules::{Defaults, Spot};
+use fields::{Version, wrong_body};
+use rules::{Defaults, Refusal, Spot};
 
-// What the body of `mvhd` is.
+// What `trex` tells: its track ID and its defaults.
 #[derive(Clone, Copy)]
-pub enum Mvhd {
-    Plain,
-    Wrong,
-}
-
-// What a body tells: the number that later rules need of it, or that it is wrong.
-#[derive(Clone, Copy)]
-pub enum Reading {
-    Tells(u32),
-    Wrong,
-}
-
-// What `trex` tells: its track ID and its defaults, or that it is wrong.
-#[derive(Clone, Copy)]
-pub enum Trex {
-    Of { id: u32, defaults: Defaults },
-    Wrong,
+pub struct Trex {
+    pub id: u32,
+    pub defaults: Defaults,
 }
 
 // What `tkhd`, `mdhd`, `hdlr` and `stsd` tell.
@@ -39,7 +25,7 @@ pub struct Heads {
     pub stsd: u32,
 }
 
-// What all bodies tell: of a sample table its count, of `trex` its track ID and its defaults.
+// What all bodies tell, of a sample table its count.
 #[derive(Clone, Copy)]
 pub struct Values {
     pub heads: Heads,
@@ -47,121 +33,110 @@ pub struct Values {
     pub stsc: u32,
     pub stsz: u32,
     pub stco: u32,
-    pub trex: u32,
-    pub defaults: Defaults,
-}
-
-// What rule 8 answers: what the bodies tell, or the place of the first wrong one.
-#[derive(Clone, Copy)]
-pub enum Bodies {
-    Tell(Values),
-    Wrong(usize),
+    pub trex: Trex,
 }
 
 // `mvhd`: 108 bytes in version 0, 120 in version 1.
-fn read_mvhd(m: &[u8], b: Spot) -> Mvhd
+#[tactic(auto, using(crate::proofs::Read::mvhd_says))]
+fn read_mvhd(m: &[u8], b: Spot) -> Option<Version>
     requires { Stands m.now b }
     ensures { SaysMvhd result m.now b.at }
 {
-    let v = fields::versioned(m, b, 108, 120);
-    match v {
-        Version::Zero => Mvhd::Plain,
-        Version::One => Mvhd::Plain,
-        Version::Wrong => Mvhd::Wrong,
-    }
+    fields::versioned(m, b, 108, 120)
 }
 
 // `tkhd` or `mdhd`, of one size in version 0 and another in version 1: the number behind its two times.
-fn read_timed(m: &[u8], b: Spot, zero: usize, one: usize) -> Reading
+fn read_timed(m: &[u8], b: Spot, zero: usize, one: usize) -> Option<u32>
     requires { Stands m.now b × (24 ≤ zero) × (32 ≤ one) }
     ensures { SaysBody result (either zero one) (timed m.now b.at) m.now b.at }
 {
-    let v = fields::versioned(m, b, zero, one);
-    match v {
-        Version::Zero => Reading::Tells(fields::word(m, b, 12)),
-        Version::One => Reading::Tells(fields::word(m, b, 20)),
-        Version::Wrong => Reading::Wrong,
+    match fields::versioned(m, b, zero, one)? {
+        Version::Zero => Some(fields::word(m, b, 12)),
+        Version::One => Some(fields::word(m, b, 20)),
     }
 }
 
 // `hdlr` or a sample table, of at least a size: the number k bytes behind its header.
-fn read_least(m: &[u8], b: Spot, least: usize, k: usize) -> Reading
+#[tactic(auto, using(crate::proofs::Read::good_body, crate::proofs::Read::bad))]
+fn read_least(m: &[u8], b: Spot, least: usize, k: usize) -> Option<u32>
     requires { Stands m.now b × (12 + k ≤ least) }
     ensures { SaysBody result (at_least least) (field m.now b.at k) m.now b.at }
 {
     if fields::is_at_least(m, b, least) {
-        return Reading::Tells(fields::word(m, b, k));
+        Some(fields::word(m, b, k))
+    } else {
+        None
     }
-    Reading::Wrong
 }
 
 // `trex`: 32 bytes, version 0.
-fn read_trex(m: &[u8], b: Spot) -> Trex
+#[tactic(auto, using(crate::proofs::Read::bad, crate::proofs::Read::plain_fits))]
+fn read_trex(m: &[u8], b: Spot) -> Option<Trex>
     requires { Stands m.now b }
     ensures { SaysTrex result m.now b.at }
 {
-    if fields::is_plain(m, b, 32) {
-        let id = fields::word(m, b, 4);
-        let defaults = Defaults {
+    if !fields::is_plain(m, b, 32) {
+        return None;
+    }
+    Some(Trex {
+        id: fields::word(m, b, 4),
+        defaults: Defaults {
             duration: fields::word(m, b, 12),
             size: fields::word(m, b, 16),
             flags: fields::word(m, b, 20),
-        };
-        return Trex::Of { id, defaults };
-    }
-    Trex::Wrong
+        },
+    })
 }
 
 // Rule 8 from `stts` on, after what was read before.
-fn read_tables(m: &[u8], s: Located, heads: Heads) -> Bodies
+fn read_tables(m: &[u8], s: Located, heads: Heads) -> Result<Values, Refusal>
     requires { LocatedIn m.now s × HeadsIn m.now s heads }
     ensures { BodiesAs result m.now s }
 {
-    let Reading::Tells(stts) = read_least(m, s.minf.stts, 16, 4) else {
-        return Bodies::Wrong(s.minf.stts.at);
+    let Some(stts) = read_least(m, s.minf.stts, 16, 4) else {
+        return Err(wrong_body(8, s.minf.stts));
     };
-    let Reading::Tells(stsc) = read_least(m, s.minf.stsc, 16, 4) else {
-        return Bodies::Wrong(s.minf.stsc.at);
+    let Some(stsc) = read_least(m, s.minf.stsc, 16, 4) else {
+        return Err(wrong_body(8, s.minf.stsc));
     };
-    let Reading::Tells(stco) = read_least(m, s.minf.stco, 16, 4) else {
-        return Bodies::Wrong(s.minf.stco.at);
+    let Some(stco) = read_least(m, s.minf.stco, 16, 4) else {
+        return Err(wrong_body(8, s.minf.stco));
     };
-    let Reading::Tells(stsz) = read_least(m, s.minf.stsz, 20, 8) else {
-        return Bodies::Wrong(s.minf.stsz.at);
+    let Some(stsz) = read_least(m, s.minf.stsz, 20, 8) else {
+        return Err(wrong_body(8, s.minf.stsz));
     };
-    let Trex::Of { id: trex, defaults } = read_trex(m, s.trex) else {
-        return Bodies::Wrong(s.trex.at);
+    let Some(trex) = read_trex(m, s.trex) else {
+        return Err(wrong_body(8, s.trex));
     };
-    Bodies::Tell(Values {
+    Ok(Values {
         heads,
         stts,
         stsc,
         stsz,
         stco,
         trex,
-        defaults,
     })
 }
 
 // Rule 8 of the bodies in `moov`, in the paper's order.
-pub fn read_bodies(m: &[u8], s: Located) -> Bodies
+pub fn read_bodies(m: &[u8], s: Located) -> Result<Values, Refusal>
     requires { LocatedIn m.now s }
     ensures { BodiesAs result m.now s }
 {
-    let Mvhd::Plain = read_mvhd(m, s.mvhd) else {
-        return Bodies::Wrong(s.mvhd.at);
+    let Some(_) = read_mvhd(m, s.mvhd) else {
+        return Err(wrong_body(8, s.mvhd));
     };
-    let Reading::Tells(id) = read_timed(m, s.trak.tkhd, 92, 104) else {
-        return Bodies::Wrong(s.trak.tkhd.at);
+    let Some(id) = read_timed(m, s.trak.tkhd, 92, 104) else {
+        return Err(wrong_body(8, s.trak.tkhd));
     };
-    let Reading::Tells(timescale) = read_timed(m, s.trak.mdhd, 32, 44) else {
-        return Bodies::Wrong(s.trak.mdhd.at);
+    let Some(timescale) = read_timed(m, s.trak.mdhd, 32, 44) else {
+        return Err(wrong_body(8, s.trak.mdhd));
     };
-    let Reading::Tells(handler) = read_least(m, s.trak.hdlr, 32, 8) else {
-        return Bodies::Wrong(s.trak.hdlr.at);
+    let Some(handler) = read_least(m, s.trak.hdlr, 32, 8) else {
+        return Err(wrong_body(8, s.trak.hdlr));
     };
-    let Reading::Tells(stsd) = read_least(m, s.minf.stsd, 16, 4) else {
-        return Bodies::Wrong(s.minf.stsd.at);
+    let Some(stsd) = read_least(m, s.minf.stsd, 16, 4) else {
+        return Err(wrong_body(8, s.minf.stsd));
     };
     let heads = Heads {
         id,

@@ -5,7 +5,7 @@ ghost use Rattle.header.specs.Places.{TrakIn, MinfIn, LocatedIn};
 
 use boxes::kinds;
 use counts::{count_boxes, counts_if};
-use rules::{Entry, Rule, Spot, first_broken};
+use rules::{Entry, Rule, Spot};
 
 // The counts in `trak`, its `edts` and its `mdia`, and where their boxes stand.
 #[derive(Clone, Copy)]
@@ -71,7 +71,7 @@ fn in_trak(m: &[u8], x: Spot) -> InTrak
     InTrak {
         trak,
         edts: counts_if(7, m, edts, Entry::One(kinds::ELST)),
-        mdia: first_broken(front, last),
+        mdia: front.and(last),
         tkhd,
         mdhd,
         hdlr,
@@ -113,7 +113,7 @@ fn in_minf(m: &[u8], x: Spot) -> InMinf
     InMinf {
         minf,
         dinf,
-        stbl: first_broken(front, last),
+        stbl: front.and(last),
         media,
         stsd,
         stts,
@@ -145,16 +145,10 @@ pub fn locate_boxes(m: &[u8], head: usize) -> Located
     let k = count_boxes(7, m, y, trex, none, none);
     let mvex = k.rule;
     let trex = k.a.first;
-    let trak = t.trak;
-    let edts = t.edts;
-    let mdia = t.mdia;
-    let minf = i.minf;
-    let dinf = i.dinf;
-    let stbl = i.stbl;
-    let lower = first_broken(minf, first_broken(dinf, first_broken(stbl, mvex)));
-    let inner = first_broken(edts, first_broken(mdia, lower));
+    let in_trak = t.trak.and(t.edts).and(t.mdia);
+    let in_minf = i.minf.and(i.dinf).and(i.stbl);
     Located {
-        rule: first_broken(moov, first_broken(trak, inner)),
+        rule: moov.and(in_trak).and(in_minf).and(mvex),
         mvhd,
         trak: t,
         minf: i,

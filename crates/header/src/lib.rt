@@ -3,15 +3,14 @@
 
 ghost use Rattle.std.specs.Prelude.{◌≡◌, length};
 ghost use Rattle.rules.specs.Header.{rule7};
-ghost use Rattle.rules.specs.declared.Ftyp.TheVariants.{Branded};
-ghost use Rattle.rules.specs.declared.Rule.TheVariants.{Holds};
 ghost use Rattle.boxes.specs.Stands.{WholeBox};
 ghost use Rattle.header.specs.Places.{LocatedIn};
 ghost use Rattle.header.specs.Answers.{HeadsAs, HeadsUpTo};
+ghost use Rattle.header.specs.declared.HeaderFault.TheVariants.{OfMoov};
 
-use bodies::{Bodies, read_bodies};
+use bodies::read_bodies;
 use containers::{Located, locate_boxes};
-use rules::{Ftyp, Header, Rule};
+use rules::{Header, Refusal};
 use values::rules_of_values;
 
 mod bodies;
@@ -28,66 +27,56 @@ pub struct HeaderFacts {
     pub hdlr: usize,
 }
 
-// What rules 7 to 13 answer: the header's facts, a refusal at `ftyp`, or one at a place of `moov`.
+// What is wrong with a header: a rule breaks at `ftyp`, by its number, or at a place of `moov`.
 #[derive(Clone, Copy)]
-pub enum HeaderAnswer {
-    Good(HeaderFacts),
+pub enum HeaderFault {
     OfFtyp(u64),
-    OfMoov { number: u64, place: u64 },
+    OfMoov(Refusal),
 }
 
-// Rules 8 to 13, where rule 7 holds and `ftyp` has a good body.
-fn check_bodies(branded: bool, m: &[u8], s: Located) -> HeaderAnswer
-    requires { LocatedIn m.now s × (rule7 m.now ≡ Holds) }
-    ensures heads_as { HeadsAs result (Branded branded) m.now }
-    ensures heads_up_to { HeadsUpTo result (length m.now) }
-{
-    let bodies = read_bodies(m, s);
-    match bodies {
-        Bodies::Wrong(at) => HeaderAnswer::OfMoov {
-            number: 8,
-            place: at as u64,
-        },
-        Bodies::Tell(v) => {
-            if !branded {
-                return HeaderAnswer::OfFtyp(9);
-            }
-            let values = rules_of_values(m, s, v);
-            match values {
-                Rule::Breaks { number, place, .. } => HeaderAnswer::OfMoov { number, place },
-                Rule::Holds => {
-                    let h = v.heads;
-                    let defaults = v.defaults;
-                    let header = Header {
-                        timescale: h.timescale,
-                        id: h.id,
-                        handler: h.handler,
-                        defaults,
-                    };
-                    let mdhd = s.trak.mdhd.at;
-                    let hdlr = s.trak.hdlr.at;
-                    HeaderAnswer::Good(HeaderFacts { header, mdhd, hdlr })
-                }
-            }
-        }
+// A rule that breaks in `moov`.
+impl From<Refusal> for HeaderFault {
+    ghost from_gives = { λ e r. r ≡ OfMoov e };
+
+    fn from(e: Refusal) -> HeaderFault {
+        HeaderFault::OfMoov(e)
     }
 }
 
+// Rules 8 to 13, where rule 7 holds and `ftyp` has a good body.
+fn check_bodies(branded: bool, m: &[u8], s: Located) -> Result<HeaderFacts, HeaderFault>
+    requires { LocatedIn m.now s × (rule7 m.now ≡ Ok tt) }
+    ensures heads_as { HeadsAs result (Some branded) m.now }
+    ensures heads_up_to { HeadsUpTo result (length m.now) }
+{
+    let v = read_bodies(m, s)?;
+    if !branded {
+        return Err(HeaderFault::OfFtyp(9));
+    }
+    rules_of_values(m, s, v)?;
+    let header = Header {
+        timescale: v.heads.timescale,
+        id: v.heads.id,
+        handler: v.heads.handler,
+        defaults: v.trex.defaults,
+    };
+    Ok(HeaderFacts {
+        header,
+        mdhd: s.trak.mdhd.at,
+        hdlr: s.trak.hdlr.at,
+    })
+}
+
 // Rules 7 to 13 over what `ftyp` tells and the bytes of `moov`, whose header has some bytes.
-pub fn check_header(f: Ftyp, m: &[u8], head: usize) -> HeaderAnswer
+pub fn check_header(f: Option<bool>, m: &[u8], head: usize) -> Result<HeaderFacts, HeaderFault>
     requires { WholeBox m.now head }
     ensures heads_as { HeadsAs result f m.now }
     ensures heads_up_to { HeadsUpTo result (length m.now) }
 {
     let s = locate_boxes(m, head);
-    let rule = s.rule;
-    match rule {
-        Rule::Breaks { number, place, .. } => HeaderAnswer::OfMoov { number, place },
-        Rule::Holds => {
-            let Ftyp::Branded(branded) = f else {
-                return HeaderAnswer::OfFtyp(8);
-            };
-            check_bodies(branded, m, s)
-        }
-    }
+    s.rule?;
+    let Some(branded) = f else {
+        return Err(HeaderFault::OfFtyp(8));
+    };
+    check_bodies(branded, m, s)
 }

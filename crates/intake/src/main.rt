@@ -2,35 +2,28 @@
 // refused line.
 #![tactic(auto)]
 
-ghost use Rattle.std.specs.Prelude.{◌≡◌, ◌<◌, length};
+ghost use Rattle.std.specs.Prelude.{◌≡◌, ◌<◌, ◌≤◌, length, IfOk};
 ghost use Rattle.printed.specs.Printed.{input_limit, printed};
-ghost use Rattle.intake.specs.Held.{HeldWithin};
 
 use printed::{INPUT_LIMIT, TEXT_ROOM};
 use std::io;
 use std::io::Read;
 
-// What was read of the input: so many bytes, now at the start of the buffer, or it can't be read, and why.
-#[derive(Clone, Copy)]
-enum Input {
-    Held(usize),
-    Unread(io::Error),
-}
-
-// Reads until the buffer is full or the input ends, however few bytes a read brings. There is room to notice more than a set may have.
-fn read_all(stdin: &mut impl Read, buf: &mut [u8]) -> Input
+// Reads until the buffer is full or the input ends, however few bytes a read brings; answers how many bytes are now at its start. There is room
+// to notice more than a set may have.
+fn read_all(stdin: &mut impl Read, buf: &mut [u8]) -> io::Result<usize>
     requires { input_limit < length buf.old }
-    ensures { HeldWithin result buf.new }
+    ensures { IfOk result (λ n. n ≤ length buf.new) }
 {
     let mut done = 0;
     while done < buf.len() {
-        match stdin.read(&mut buf[done..]) {
-            Ok(0) => return Input::Held(done),
-            Ok(n) => done += n,
-            Err(e) => return Input::Unread(e),
+        let n = stdin.read(&mut buf[done..])?;
+        if n == 0 {
+            break;
         }
+        done += n;
     }
-    Input::Held(done)
+    Ok(done)
 }
 
 // Writes a text to standard output: nothing but the answer to the input. Says why where it can't, but of a reader
@@ -39,9 +32,7 @@ fn show(rt: &(impl Print + Eprint), input: &[u8], text: &[u8])
     requires { text.now ≡ printed input.now }
 {
     if let Err(e) = rt.write_all(text) {
-        if e.kind() != io::ErrorKind::BrokenPipe {
-            let _ = eprintln!(rt; "standard output: {e}");
-        }
+        told::say_unwritten(rt, e);
     }
 }
 
@@ -56,8 +47,8 @@ fn print(rt: &(impl Print + Eprint), input: &[u8]) {
 fn main(rt: HostRuntime) {
     let mut input = [0u8; INPUT_LIMIT + 1];
     match read_all(&mut rt.stdin(), &mut input) {
-        Input::Held(n) => print(&rt, &input[..n]),
-        Input::Unread(e) => {
+        Ok(n) => print(&rt, &input[..n]),
+        Err(e) => {
             let _ = eprintln!(rt; "standard input: {e}");
         }
     }

@@ -1,139 +1,152 @@
 // What the programs print, as lines in a lent buffer.
 #![tactic(auto)]
 
-ghost use Rattle.std.specs.Prelude.{◌∷◌, [], ◌+◌, ◌*◌, ◌≤◌, ◌<◌, length, take};
-ghost use Rattle.lines.specs.Lines.{digit, decimal, field_of, line_end, spaced, case_line};
+ghost use Rattle.std.specs.Prelude.{◌≡◌, ◌∷◌, [], ◌++◌, ◌+◌, ◌*◌, ◌≤◌, length, take};
+ghost use Rattle.lines.specs.Lines.{decimal, field_of, line_end, spaced, case_line};
 ghost use Rattle.lines.specs.Lines.{accepted_line, refused_line, tick_line, tick_lines, over_line, verdict_lines, set_lines, answer_lines};
-ghost use Rattle.lines.specs.Puts.{Put, Line};
+ghost use Rattle.lines.specs.Puts.{Line};
+ghost use Rattle.lines.specs.Texts.{Puts};
 
 use rules::{Answer, Verdict};
 
 // The room for an answer's lines: one of at most 128 bytes, and two of at most 21.
 pub const ANSWER_ROOM: usize = 170;
 
-// Puts the digit of a number below 10 at a place, and answers the next place.
-fn put_digit(d: u64, at: usize, out: &mut [u8]) -> usize
-    requires { (d < 10) × (at < length out.old) }
-    ensures { Put out.old at (digit d ∷ []) result out.new }
-{
-    out[at] = 48 + d as u8;
-    at + 1
+// A text at the start of a lent buffer: so many of its bytes. Behind them the buffer is as it was.
+// Not by Display and `write!`: these promise bytes at Ok alone, and never that a writer that takes all gets Ok; `set_lines` and the others may not fail.
+#[derive(Drop)]
+struct Text<'a> {
+    buffer: &'a mut [u8],
+    len: usize,
 }
 
-// Puts a number's decimal digits at a place, and answers the place behind them.
-fn put_number(n: u64, at: usize, out: &mut [u8]) -> usize
-    requires { at + length (decimal n) ≤ length out.old }
-    ensures { Put out.old at (decimal n) result out.new }
-{
-    if n < 10 {
-        return put_digit(n, at, out);
+impl<'a> Text<'a> {
+    // No bytes yet.
+    fn new(buffer: &'a mut [u8]) -> Text<'a>
+        ensures same { result.buffer.ghost_name ≡ buffer.entry.ghost_name }
+        ensures now { result.buffer.now ≡ buffer.old }
+        ensures empty { result.len ≡ 0 }
+    {
+        Text { buffer, len: 0 }
     }
-    let last = put_number(n / 10, at, out);
-    put_digit(n % 10, last, out)
-}
 
-// Puts a text at a place, and answers the place behind it.
-fn put_text(text: &[u8], at: usize, out: &mut [u8]) -> usize
-    requires { at + length text.now ≤ length out.old }
-    ensures { Put out.old at text.now result out.new }
-{
-    let mut i = 0;
-    while i < text.len() {
-        out[at + i] = text[i];
-        i += 1;
+    // Puts bytes behind it.
+    fn put(&mut self, bytes: &[u8]) -> &mut Self
+        requires { self.old.len + length bytes.now ≤ length self.old.buffer.now }
+        ensures same { result.ghost_name ≡ self.entry.ghost_name }
+        ensures puts { Puts self.old bytes.now result.now }
+    {
+        let next = self.len + bytes.len();
+        self.buffer[self.len..next].copy_from_slice(bytes);
+        self.len = next;
+        self
     }
-    at + i
-}
 
-// Puts a text and a number behind it at a place, and answers the place behind them.
-fn put_field(text: &[u8], n: u64, at: usize, out: &mut [u8]) -> usize
-    requires { at + length text.now + 20 ≤ length out.old }
-    ensures put { Put out.old at (field_of text.now n) result out.new }
-    ensures upper_bound { result ≤ at + length text.now + 20 }
-{
-    let next = put_text(text, at, out);
-    put_number(n, next, out)
-}
+    // Puts a number's decimal digits behind it.
+    fn number(&mut self, n: u64) -> &mut Self
+        requires { self.old.len + 20 ≤ length self.old.buffer.now }
+        ensures same { result.ghost_name ≡ self.entry.ghost_name }
+        ensures puts { Puts self.old (decimal n) result.now }
+        ensures upper_bound { result.now.len ≤ self.old.len + 20 }
+    {
+        self.put(itoa::Buffer::new().format(n).as_bytes())
+    }
 
-// Puts the line end at a place, and answers the place behind it.
-fn put_line_end(at: usize, out: &mut [u8]) -> usize
-    requires { at < length out.old }
-    ensures { Put out.old at line_end result out.new }
-{
-    out[at] = 10;
-    at + 1
-}
+    // Puts a text and a number behind it.
+    fn field(&mut self, text: &[u8], n: u64) -> &mut Self
+        requires { self.old.len + length text.now + 20 ≤ length self.old.buffer.now }
+        ensures same { result.ghost_name ≡ self.entry.ghost_name }
+        ensures puts { Puts self.old (field_of text.now n) result.now }
+        ensures upper_bound { result.now.len ≤ self.old.len + length text.now + 20 }
+    {
+        self.put(text).number(n)
+    }
 
-// Puts the line of a refused set at the start, and answers the place behind it.
-fn refused_line(number: u64, track: u64, place: u64, out: &mut [u8]) -> usize
-    requires { 128 ≤ length out.old }
-    ensures put { Put out.old 0 (refused_line number track place) result out.new }
-    ensures upper_bound { result ≤ 128 }
-{
-    let a = put_field(b"refused ", number, 0, out);
-    let b = put_field(b" track ", track, a, out);
-    let c = put_field(b" at ", place, b, out);
-    put_line_end(c, out)
-}
+    // Ends its line.
+    fn line_end(&mut self) -> &mut Self
+        requires { self.old.len + 1 ≤ length self.old.buffer.now }
+        ensures same { result.ghost_name ≡ self.entry.ghost_name }
+        ensures puts { Puts self.old line_end result.now }
+    {
+        self.put(b"\n")
+    }
 
-// Puts the line of an accepted set at the start, and answers the place behind it.
-fn accepted_line(tracks: u64, fragments: u64, timescale: u64, out: &mut [u8]) -> usize
-    requires { 128 ≤ length out.old }
-    ensures put { Put out.old 0 (accepted_line tracks fragments timescale) result out.new }
-    ensures upper_bound { result ≤ 128 }
-{
-    let a = put_field(b"accepted tracks ", tracks, 0, out);
-    let b = put_field(b" fragments ", fragments, a, out);
-    let c = put_field(b" timescale ", timescale, b, out);
-    put_line_end(c, out)
-}
+    // Puts the line of a refused set behind it.
+    fn refused(&mut self, v: Verdict) -> &mut Self
+        requires { self.old.len + 128 ≤ length self.old.buffer.now }
+        ensures same { result.ghost_name ≡ self.entry.ghost_name }
+        ensures puts { Puts self.old (refused_line v.number v.track v.place) result.now }
+        ensures upper_bound { result.now.len ≤ self.old.len + 128 }
+    {
+        self.field(b"refused ", v.number)
+            .field(b" track ", v.track)
+            .field(b" at ", v.place)
+            .line_end()
+    }
 
-// Puts the line of a boundary at a place, and answers the place behind it.
-fn tick_line(tick: u64, at: usize, out: &mut [u8]) -> usize
-    requires { at + 21 ≤ length out.old }
-    ensures put { Put out.old at (tick_line tick) result out.new }
-    ensures upper_bound { result ≤ at + 21 }
-{
-    let a = put_field(b"", tick, at, out);
-    put_line_end(a, out)
-}
+    // Puts the line of an accepted set behind it.
+    fn accepted(&mut self, tracks: u64, v: Verdict) -> &mut Self
+        requires { self.old.len + 128 ≤ length self.old.buffer.now }
+        ensures same { result.ghost_name ≡ self.entry.ghost_name }
+        ensures puts { Puts self.old (accepted_line tracks v.count v.timescale) result.now }
+        ensures upper_bound { result.now.len ≤ self.old.len + 128 }
+    {
+        self.field(b"accepted tracks ", tracks)
+            .field(b" fragments ", v.count)
+            .field(b" timescale ", v.timescale)
+            .line_end()
+    }
 
-// Puts the numbers 0 to last of a table at a place, one a line, and answers the place behind them.
-fn tick_lines(t: &[u64], last: u64, at: usize, out: &mut [u8]) -> usize
-    requires { at + 21 * length t.now ≤ length out.old }
-    ensures put { Put out.old at (tick_lines (take (last + 1) t.now)) result out.new }
-    ensures upper_bound { result ≤ at + 21 * length t.now }
-{
-    let mut k = 0;
-    let mut next = at;
-    while k < t.len() {
-        if last < k as u64 {
-            return next;
+    // Puts numbers behind it, one a line.
+    fn ticks(&mut self, ticks: &[u64]) -> &mut Self
+        requires { self.old.len + 21 * length ticks.now ≤ length self.old.buffer.now }
+        ensures same { result.ghost_name ≡ self.entry.ghost_name }
+        ensures puts { Puts self.old (tick_lines ticks.now) result.now }
+        ensures upper_bound { result.now.len ≤ self.old.len + 21 * length ticks.now }
+    {
+        for &tick in ticks {
+            self.number(tick).line_end();
         }
-        next = tick_line(t[k], next, out);
-        k += 1;
+        self
     }
-    next
+
+    // Puts the five numbers of a verdict behind it, a space before each.
+    fn verdict(&mut self, v: Verdict) -> &mut Self
+        requires { self.old.len + 105 ≤ length self.old.buffer.now }
+        ensures same { result.ghost_name ≡ self.entry.ghost_name }
+        ensures puts { Puts self.old (spaced v) result.now }
+        ensures upper_bound { result.now.len ≤ self.old.len + 105 }
+    {
+        self.field(b" ", v.number)
+            .field(b" ", v.track)
+            .field(b" ", v.place)
+            .field(b" ", v.count)
+            .field(b" ", v.timescale)
+    }
 }
 
-// The lines of a verdict on so many tracks, with the numbers 0 to last of a table, at the start of the buffer; answers their length.
-fn verdict_lines(tracks: u64, v: Verdict, t: &[u64], last: u64, out: &mut [u8]) -> usize
-    requires { 128 + 21 * length t.now ≤ length out.old }
-    ensures { Line (verdict_lines tracks v (take (last + 1) t.now)) out.old result out.new }
+// The lines of a verdict on so many tracks, with the boundaries given, at the start of the buffer; answers their length.
+fn verdict_lines(tracks: u64, v: Verdict, ticks: &[u64], out: &mut [u8]) -> usize
+    requires { 128 + 21 * length ticks.now ≤ length out.old }
+    ensures { Line (verdict_lines tracks v ticks.now) out.old result out.new }
 {
+    let mut text = Text::new(out);
     if v.number == 0 {
-        let n = accepted_line(tracks, v.count, v.timescale, out);
-        return tick_lines(t, last, n, out);
+        text.accepted(tracks, v).ticks(ticks);
+    } else {
+        text.refused(v);
     }
-    refused_line(v.number, v.track, v.place, out)
+    text.len
 }
 
 // The lines of the set job's outcome, at the start of the buffer; answers their length.
+// It answers a length, as do the others, and no slice, which is no plainer: only a clause on the end of the loan could say what stands behind the lines.
 pub fn set_lines(tracks: u64, v: Verdict, t: &[u64], out: &mut [u8]) -> usize
     requires { 128 + 21 * length t.now ≤ length out.old }
     ensures { Line (set_lines tracks (record { verdict = v; table = t.now })) out.old result out.new }
 {
-    verdict_lines(tracks, v, t, v.count, out)
+    let ticks = t.get(..=v.count as usize).unwrap_or(t);
+    verdict_lines(tracks, v, ticks, out)
 }
 
 // The lines of the answer of the form that takes pieces, at the start of the buffer; answers their length.
@@ -141,8 +154,7 @@ pub fn answer_lines(a: Answer, out: &mut [u8]) -> usize
     requires { 170 ≤ length out.old }
     ensures { Line (answer_lines a) out.old result out.new }
 {
-    let ticks = [a.first, a.last];
-    verdict_lines(1, a.verdict, &ticks, 1, out)
+    verdict_lines(1, a.verdict, &[a.first, a.last], out)
 }
 
 // The line of an input over a limit, at the start of the buffer; answers its length.
@@ -150,22 +162,9 @@ pub fn over_line(limit: u64, out: &mut [u8]) -> usize
     requires { 128 ≤ length out.old }
     ensures { Line (over_line limit) out.old result out.new }
 {
-    let a = put_field(b"input over ", limit, 0, out);
-    let b = put_text(b" bytes", a, out);
-    put_line_end(b, out)
-}
-
-// Puts the five numbers of a verdict, a space before each, at a place, and answers the place behind them.
-fn put_verdict(v: Verdict, at: usize, out: &mut [u8]) -> usize
-    requires { at + 105 ≤ length out.old }
-    ensures put { Put out.old at (spaced v) result out.new }
-    ensures upper_bound { result ≤ at + 105 }
-{
-    let a = put_field(b" ", v.number, at, out);
-    let b = put_field(b" ", v.track, a, out);
-    let c = put_field(b" ", v.place, b, out);
-    let d = put_field(b" ", v.count, c, out);
-    put_field(b" ", v.timescale, d, out)
+    let mut text = Text::new(out);
+    text.field(b"input over ", limit).put(b" bytes").line_end();
+    text.len
 }
 
 // The line of a test case, at the start of the buffer; answers its length.
@@ -173,8 +172,7 @@ pub fn case_line(job: u64, v: Verdict, sum: u64, out: &mut [u8]) -> usize
     requires { 160 ≤ length out.old }
     ensures { Line (case_line job v sum) out.old result out.new }
 {
-    let a = put_field(b"", job, 0, out);
-    let b = put_verdict(v, a, out);
-    let c = put_field(b" ", sum, b, out);
-    put_line_end(c, out)
+    let mut text = Text::new(out);
+    text.number(job).verdict(v).field(b" ", sum).line_end();
+    text.len
 }

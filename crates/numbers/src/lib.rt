@@ -1,162 +1,161 @@
-// Big-endian numbers at a place of a slice. `be2` to `be8` are total: a byte past the end reads as 0; `near3` to `near8` ask for a
+// Big-endian numbers of one to eight bytes at a place of a slice. `read` is total: a byte past the end reads as 0; `near` asks for a
 // place inside.
 #![tactic(auto)]
 
-ghost use Rattle.std.specs.Prelude.{◌≡◌, ◌+◌, ◌*◌, ◌/◌, ◌%◌, ◌<◌, ◌≤◌, length};
+ghost use Rattle.std.specs.Prelude.{◌≡◌, ◌+◌, ◌*◌, ◌/◌, ◌%◌, ◌<◌, ◌≤◌, ℕ, List, length};
 ghost use Rattle.numbers.specs.Numbers.{byte, be2, be3, be4, be8, has, signed, is_place};
+ghost use Rattle.std.proofs.Common.{lit≤};
+ghost use Rattle.numbers.specs.Reads.{Reads, reads1, reads2, reads3, reads4, reads8};
 
-// The byte at a place.
-pub fn byte(s: &[u8], at: usize) -> u8
-    ensures { result ≡ byte s.now at }
-{
-    if at < s.len() { s[at] } else { 0 }
+// Numbers that are read from bytes, the first the highest.
+pub trait BigEndian: Sized {
+    // How many bytes a number has.
+    const WIDTH: usize;
+
+    ghost WIDTH: { ℕ };
+
+    // The number that stands at a place of a list, and the number that a value is.
+    ghost number: { List ℕ → ℕ → ℕ };
+
+    ghost value: { Self → ℕ };
+
+    // The number at a place inside the slice.
+    fn near(s: &[u8], at: usize) -> Self
+        requires { at + WIDTH ≤ length s.now }
+        ensures { value result ≡ number s.now at };
+
+    // The number at a place.
+    final fn read(s: &[u8], at: usize) -> Self
+        ensures { value result ≡ number s.now at }
+    {
+        if Self::WIDTH <= s.len() && at <= s.len() - Self::WIDTH {
+            return Self::near(s, at);
+        }
+        let rest = s.get(at..).unwrap_or(&[]);
+        padded(rest)
+    }
+
+    // A number has no more bytes than a `u64`, and is read from these bytes alone.
+    ghost narrow: { WIDTH ≤ 8 };
+
+    ghost reads: { Reads WIDTH number };
 }
 
-// The byte n places after a place, where their sum may not fit.
-fn byte_after(s: &[u8], at: usize, n: usize) -> u8
-    ensures { result ≡ byte s.now (at + n) }
+// The number that some bytes begin, the others 0.
+#[cold]
+fn padded<N: BigEndian>(bytes: &[u8]) -> N
+    requires { length bytes.now ≤ N.WIDTH }
+    ensures { N.value result ≡ N.number bytes.now 0 }
 {
-    if at < s.len() {
-        if n < s.len() - at {
-            return s[at + n];
+    let mut all = [0; 8];
+    all[..bytes.len()].copy_from_slice(bytes);
+    N::near(&all, 0)
+}
+
+impl BigEndian for u8 {
+    const WIDTH: usize = 1;
+
+    ghost WIDTH = { 1 };
+
+    ghost number = { byte };
+
+    ghost value = { λ x. x };
+
+    fn near(s: &[u8], at: usize) -> u8 {
+        s[at]
+    }
+
+    ghost narrow = { lit≤ tt };
+
+    ghost reads = { reads1 };
+}
+
+#[tactic(auto, unfolding(crate::specs::Numbers::be2))]
+impl BigEndian for u16 {
+    const WIDTH: usize = 2;
+
+    ghost WIDTH = { 2 };
+
+    ghost number = { be2 };
+
+    ghost value = { λ x. x };
+
+    fn near(s: &[u8], at: usize) -> u16 {
+        u16::from_be_bytes([s[at], s[at + 1]])
+    }
+
+    ghost narrow = { lit≤ tt };
+
+    ghost reads = { reads2 };
+}
+
+// A number of three bytes.
+#[derive(Clone, Copy)]
+pub struct U24 {
+    pub value: u32,
+    ghost in_range: { value < 16777216 },
+}
+
+#[tactic(auto, unfolding(crate::specs::Numbers::be3))]
+impl BigEndian for U24 {
+    const WIDTH: usize = 3;
+
+    ghost WIDTH = { 3 };
+
+    ghost number = { be3 };
+
+    ghost value = { λ x. x.value };
+
+    fn near(s: &[u8], at: usize) -> U24 {
+        U24 {
+            value: u32::from_be_bytes([0, s[at], s[at + 1], s[at + 2]]),
         }
     }
-    0
+
+    ghost narrow = { lit≤ tt };
+
+    ghost reads = { reads3 };
 }
 
-// Two bytes as a number.
-fn two(a: u8, b: u8) -> u32
-    ensures value { result ≡ a * 256 + b }
-    ensures upper_bound { result < 65536 }
-{
-    a as u32 * 256 + b as u32
-}
+#[tactic(auto, unfolding(crate::specs::Numbers::be4))]
+impl BigEndian for u32 {
+    const WIDTH: usize = 4;
 
-// Three bytes as a number.
-fn three(a: u8, b: u8, c: u8) -> u32
-    ensures value { result ≡ a * 65536 + b * 256 + c }
-    ensures upper_bound { result < 16777216 }
-{
-    a as u32 * 65536 + b as u32 * 256 + c as u32
-}
+    ghost WIDTH = { 4 };
 
-// Four bytes as a number, the first the lowest: one load.
-fn little(a: u8, b: u8, c: u8, d: u8) -> u32
-    ensures { result ≡ a + b * 256 + c * 65536 + d * 16777216 }
-{
-    a as u32 + b as u32 * 256 + c as u32 * 65536 + d as u32 * 16777216
-}
+    ghost number = { be4 };
 
-// The four bytes of a number the other way round: one instruction.
-fn turned(x: u32) -> u32
-    ensures { result ≡ x % 256 * 16777216 + x / 256 % 256 * 65536 + x / 65536 % 256 * 256 + x / 16777216 }
-{
-    x % 256 * 16777216 + x / 256 % 256 * 65536 + x / 65536 % 256 * 256 + x / 16777216
-}
+    ghost value = { λ x. x };
 
-// Four bytes as a number. In these two steps the compiler sees a load and a turn before it puts the reader into its callers.
-fn four(a: u8, b: u8, c: u8, d: u8) -> u32
-    ensures { result ≡ a * 16777216 + b * 65536 + c * 256 + d }
-{
-    turned(little(a, b, c, d))
-}
-
-// Two numbers of four bytes as one of eight.
-fn eight(high: u32, low: u32) -> u64
-    ensures { result ≡ high * 4294967296 + low }
-{
-    high as u64 * 4294967296 + low as u64
-}
-
-// The number in the three bytes at a place inside the slice.
-pub fn near3(s: &[u8], at: usize) -> u32
-    requires { at + 3 ≤ length s.now }
-    ensures value { result ≡ be3 s.now at }
-    ensures upper_bound { result < 16777216 }
-{
-    three(s[at], s[at + 1], s[at + 2])
-}
-
-// The number in the four bytes at a place inside the slice.
-pub fn near4(s: &[u8], at: usize) -> u32
-    requires { at + 4 ≤ length s.now }
-    ensures { result ≡ be4 s.now at }
-{
-    four(s[at], s[at + 1], s[at + 2], s[at + 3])
-}
-
-// The number in the eight bytes at a place inside the slice.
-pub fn near8(s: &[u8], at: usize) -> u64
-    requires { at + 8 ≤ length s.now }
-    ensures { result ≡ be8 s.now at }
-{
-    eight(near4(s, at), near4(s, at + 4))
-}
-
-// Four bytes from n places after a place, each by itself: where some may stand past the end.
-fn slow4(s: &[u8], at: usize, n: usize) -> u32
-    requires { n ≤ 4 }
-    ensures { result ≡ be4 s.now (at + n) }
-{
-    four(
-        byte_after(s, at, n),
-        byte_after(s, at, n + 1),
-        byte_after(s, at, n + 2),
-        byte_after(s, at, n + 3),
-    )
-}
-
-// The number in the two bytes at a place.
-pub fn be2(s: &[u8], at: usize) -> u32
-    ensures value { result ≡ be2 s.now at }
-    ensures upper_bound { result < 65536 }
-{
-    if 2 <= s.len() {
-        if at <= s.len() - 2 {
-            return two(s[at], s[at + 1]);
-        }
+    fn near(s: &[u8], at: usize) -> u32 {
+        u32::from_be_bytes([s[at], s[at + 1], s[at + 2], s[at + 3]])
     }
-    two(byte(s, at), byte_after(s, at, 1))
+
+    ghost narrow = { lit≤ tt };
+
+    ghost reads = { reads4 };
 }
 
-// The number in the three bytes at a place.
-pub fn be3(s: &[u8], at: usize) -> u32
-    ensures value { result ≡ be3 s.now at }
-    ensures upper_bound { result < 16777216 }
-{
-    if 3 <= s.len() {
-        if at <= s.len() - 3 {
-            return near3(s, at);
-        }
+#[tactic(auto, unfolding(crate::specs::Numbers::be8))]
+impl BigEndian for u64 {
+    const WIDTH: usize = 8;
+
+    ghost WIDTH = { 8 };
+
+    ghost number = { be8 };
+
+    ghost value = { λ x. x };
+
+    fn near(s: &[u8], at: usize) -> u64 {
+        u32::near(s, at) as u64 * 4294967296 + u32::near(s, at + 4) as u64
     }
-    three(byte(s, at), byte_after(s, at, 1), byte_after(s, at, 2))
+
+    ghost narrow = { lit≤ tt };
+
+    ghost reads = { reads8 };
 }
 
-// The number in the four bytes at a place.
-pub fn be4(s: &[u8], at: usize) -> u32
-    ensures { result ≡ be4 s.now at }
-{
-    if 4 <= s.len() {
-        if at <= s.len() - 4 {
-            return near4(s, at);
-        }
-    }
-    slow4(s, at, 0)
-}
-
-// The number in the eight bytes at a place.
-pub fn be8(s: &[u8], at: usize) -> u64
-    ensures { result ≡ be8 s.now at }
-{
-    if 8 <= s.len() {
-        if at <= s.len() - 8 {
-            return near8(s, at);
-        }
-    }
-    eight(slow4(s, at, 0), slow4(s, at, 4))
-}
-
-// Whether a flag, a power of two, is set.
+// Whether a flag, a power of two, is set. By a quotient and not by `&`: the clause speaks of every w above 0.
 pub fn has(flags: u32, w: u32) -> bool
     requires { 0 < w }
     ensures { result ≡ has flags w }
@@ -168,16 +167,12 @@ pub fn has(flags: u32, w: u32) -> bool
 pub fn signed(x: u32) -> i32
     ensures { result ≡ signed x }
 {
-    if x < 2147483648 {
-        x as i32
-    } else {
-        -1 - ((4294967295 - x) as i32)
-    }
+    x.cast_signed()
 }
 
 // Whether a signed number is the place e.
 pub fn is_place(o: i32, e: u64) -> bool
     ensures { result ≡ is_place o e }
 {
-    if o < 0 { false } else { o as u64 == e }
+    u64::try_from(o) == Ok(e)
 }

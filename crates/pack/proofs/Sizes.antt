@@ -1,36 +1,31 @@
--- Laws of a file's bytes, and of where writing has come to.
-use Prim.Native.Nat.{ℕ, ◌+◌, ◌≤◌}
-use mathlib.Core.Path.{◌≡◌, subst}
-use mathlib.Core.Bool.{Bool, true}
-use mathlib.Core.List.{List}
-use native.Mathlib.Omega.{arith}
-use lib.ListN.{take}
-use Rattle.std.specs.declared.fs.File.{File as Opened}
+-- Laws of the files' bytes: what one file more says of the bundle.
+use Rattle.std.proofs.Common.{ℕ, ◌+◌, ◌<◌, ◌≤◌, ◌≡◌, ◌∙◌, ap, subst, take_all, List, Option, Some, None, length, take, get_or, set, arith}
+use Rattle.std.proofs.lemmas.List.{length-map, map-set}
+use Rattle.std.proofs.Math.ListN.{get_or-map}
 use Rattle.bundle.specs.Front.{bundle_length}
-use Rattle.pack.specs.declared.Size.{Size}
-use Rattle.pack.specs.declared.Size.TheVariants.{Bytes}
-use Rattle.pack.specs.declared.File.{File}
-use Rattle.pack.specs.declared.File.TheVariants.{Ready}
-use Rattle.pack.specs.declared.Place.{Place}
-use Rattle.pack.specs.declared.Place.TheVariants.{At, Stopped}
-use Rattle.pack.specs.Sizes.{WithinLimit, Readied, AllFit, WritesTo, Packed}
+use Rattle.bundle.proofs.Lengths.{next_length, stored_length, fewer}
+use Rattle.pack.specs.declared.Source.{Source}
+use Rattle.pack.specs.Sizes.{size_in, sizes}
 
-pub within_limit : (from : ℕ) {r : Size} {n : ℕ} → r ≡ Bytes n → WithinLimit r from → from + n ≤ 1073741824
-within_limit from e h = subst (λ (s : Size). WithinLimit s from) e h
+-- the size of file k, where it is ready
+pub size_of_ready : (slots : List (Option Source)) (k : ℕ) {r : Source} → get_or slots k None ≡ Some r → get_or (sizes slots) k 0 ≡ r.size
+size_of_ready slots k e = get_or-map size_in slots k None ∙ ap size_in e
 
-pub readied : (from : ℕ) {r : File} {file : Opened} {n : ℕ} → r ≡ Ready file n → Readied r from → from + n ≤ 1073741824
-readied from e h = subst (λ (f : File). Readied f from) e h
+-- the next file, where it stands and where it is stored
+pub next_file : (slots : List (Option Source)) (k : ℕ) {r : Source} → k < length slots → get_or slots k None ≡ Some r
+    → bundle_length (take (k + 1) (sizes slots)) ≡ bundle_length (take k (sizes slots)) + 6 + r.size
+next_file slots k h e =
+    next_length (sizes slots) k (omega (arith, length-map slots size_in))
+    ∙ ap (λ (n : ℕ). bundle_length (take k (sizes slots)) + 6 + n) (size_of_ready slots k e)
 
-pub reached : (n : ℕ) {r : Place} {end : ℕ} → r ≡ At end → WritesTo r n → end ≡ n
-reached n e h = subst (λ (p : Place). WritesTo p n) e h
+pub stored_file : (slots : List (Option Source)) (k : ℕ) (r : Source) → k < length slots
+    → bundle_length (take (k + 1) (sizes (set slots k (Some r)))) ≡ bundle_length (take k (sizes slots)) + 6 + r.size
+stored_file slots k r h =
+    ap (λ (ns : List ℕ). bundle_length (take (k + 1) ns)) (map-set size_in slots k (Some r))
+    ∙ stored_length (sizes slots) k r.size (omega (arith, length-map slots size_in))
 
-pub all_fit : (files : ℕ) (sizes : List ℕ) {b : Bool} → b ≡ true → AllFit b files sizes → bundle_length (take files sizes) ≤ 1073741824
-all_fit files sizes e h = subst (λ (b : Bool). AllFit b files sizes) e h
-
--- where writing has come to the end of the bundle, and that is within the limit
-pub packed : (files : ℕ) (sizes : List ℕ) (r : Place)
-    → bundle_length (take files sizes) ≤ 1073741824
-    → WritesTo r (bundle_length (take files sizes))
-    → Packed r files sizes
-packed files sizes (At end) h e = (e, omega arith)
-packed files sizes Stopped h e = tt
+-- the first k records are no longer than all of them
+pub first_files : (slots : List (Option Source)) (k : ℕ) → k ≤ length slots → bundle_length (take k (sizes slots)) ≤ bundle_length (sizes slots)
+first_files slots k h =
+    subst (λ (ns : List ℕ). bundle_length (take k (sizes slots)) ≤ bundle_length ns) (take_all (length slots) (sizes slots) (omega (arith, length-map slots size_in)))
+    (fewer (sizes slots) k (length slots) h)

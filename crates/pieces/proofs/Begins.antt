@@ -13,36 +13,26 @@ use Rattle.numbers.specs.Numbers.{be4, be8, when}
 use Rattle.numbers.proofs.Bounds.{in_drop, reads4, reads8}
 use Rattle.rules.specs.Kinds.{mdat}
 use Rattle.rules.specs.Limits.{byte_limit, box_limit}
-use Rattle.rules.specs.Rules.{◌then◌, must, on_rule}
+use Rattle.rules.specs.Rules.{◌then◌, must, on_rule, Course, Framing, Judged, Rule, breaks, unframed}
 use Rattle.rules.specs.Boxes.{Box, Forest, bad, node, part, look_at, look, inside, within, forest, boxes, size_of, kind_of, whole}
 use Rattle.rules.specs.Framing.{on_framing, rule5, framing, framing_rule}
 use Rattle.rules.specs.Order.{ordered, step6, on_stepped}
 use Rattle.rules.specs.Track.{rule1, header_of, chunks, sync_at, in_fragments, fragments, first_moofs, fragment_count, timescale, start_at, first_tick_of, last_end, end_list, end_of_track, ticks, boundaries}
 use Rattle.rules.specs.Course.{judged_by, waiting, brought, spot_of, stage_of, and_box, course_from, course_end, course_of, facts_of}
 use Rattle.rules.specs.Pieces.{large, with29, framed_with29, ruling_in_pieces, first_boundary, last_boundary, accepted_between, refused_as, answer_for}
-use Rattle.rules.specs.declared.Course.{Course}
-use Rattle.rules.specs.declared.Course.TheVariants.{On, Broken}
-use Rattle.rules.specs.declared.Framing.{Framing}
-use Rattle.rules.specs.declared.Framing.TheVariants.{Framed, Misframed}
-use Rattle.rules.specs.declared.Judged.{Judged}
-use Rattle.rules.specs.declared.Judged.TheVariants.{Refused}
+use Rattle.std.specs.Prelude.{Option, None, Some, Ok, Err}
 use Rattle.rules.specs.declared.Look.{Look}
 use Rattle.rules.specs.declared.Look.TheVariants.{Nothing, Short, Small, Beyond, Good}
 use Rattle.rules.specs.declared.Path.TheVariants.{Top}
-use Rattle.rules.specs.declared.Previous.{Previous}
-use Rattle.rules.specs.declared.Previous.TheVariants.{Unset, End}
 use Rattle.rules.specs.declared.Reached.{Reached}
 use Rattle.rules.specs.declared.Reached.TheVariants.{Start, Typed, Headed, Halved, Paired}
-use Rattle.rules.specs.declared.Rule.{Rule}
-use Rattle.rules.specs.declared.Rule.TheVariants.{Holds, Breaks}
 use Rattle.rules.specs.declared.Stage.{Stage}
 use Rattle.rules.specs.declared.Stage.TheVariants as stage
-use Rattle.rules.specs.declared.Stepped.{Stepped}
-use Rattle.rules.specs.declared.Stepped.TheVariants.{To, Wrong}
 use Rattle.rules.proofs.OnePass.{one_pass}
 use Rattle.rules.proofs.Forest.{FoundBox, never, look_found, nothing_left, forest_by, boxes_by}
 use Rattle.pieces.specs.Rest.{number_broken, box_framing, waits_after, rest}
-use Rattle.pieces.specs.State.{state_of, open_header, sound_course, sound_phase, sound, comes_by, comes_to, start_value, end_value, answer_of}
+use Rattle.pieces.specs.State.{state_of, open_header, sound_course, sound_phase, sound, comes_by, comes_to, answer_of}
+use Rattle.std.specs.Option.{unwrap_or}
 use Rattle.pieces.specs.Form.{Memory, resume, Starts}
 use Rattle.pieces.specs.declared.state.Phase.TheVariants.{Head}
 use Rattle.pieces.specs.declared.state.Progress.{Progress}
@@ -75,54 +65,54 @@ module _ (s : List ℕ) (at : ℕ) where
   part_rest h n = ap (take n) (drop-drop h at s)
 
 -- where an `mdat` is awaited no box is passed over
-none_passed : (k : ℕ) (g : Stage) → ordered k ≡ false → step6 stage.Halved k ≡ To g → ⊥
+none_passed : (k : ℕ) (g : Stage) → ordered k ≡ false → step6 stage.Halved k ≡ Some g → ⊥
 unfolding step6 ordered
 none_passed k g o e = by (eqb k mdat) refl e
   where
-    by : (t : Bool) → eqb k mdat ≡ t → when t (To stage.Paired) Wrong ≡ To g → ⊥
+    by : (t : Bool) → eqb k mdat ≡ t → when t (Some stage.Paired) None ≡ Some g → ⊥
     by true y p = true≢false (rw (eqb-true k mdat y) at o)
     by false y p = never (cc)
 
 -- after a box what waits is that box itself, where it is a `moof`, or nothing
 waits_on :
-    (s own w : List ℕ) (r : Reached) (x : Box) (p : Stepped) (o : Bool) →
+    (s own w : List ℕ) (r : Reached) (x : Box) (p : Option Stage) (o : Bool) →
     step6 (stage_of r) x.kind ≡ p → ordered x.kind ≡ o → own ≡ whole s x.at →
-    waits_after (on_stepped p (λ g. On (when o (brought own w r (spot_of x)) r)) (Broken x.at)) own
-    ≡ waiting s (on_stepped p (λ g. On (when o (brought own w r (spot_of x)) r)) (Broken x.at))
+    waits_after (on_stepped p (λ g. Ok (when o (brought own w r (spot_of x)) r)) (Err x.at)) own
+    ≡ waiting s (on_stepped p (λ g. Ok (when o (brought own w r (spot_of x)) r)) (Err x.at))
 unfolding brought
-waits_on s own w r x Wrong o a b e = refl
-waits_on s own w Start x (To g) true a b e = refl
-waits_on s own w Start x (To g) false a b e = refl
-waits_on s own w (Typed f) x (To g) true a b e = refl
-waits_on s own w (Typed f) x (To g) false a b e = refl
-waits_on s own w (Headed j) x (To g) true a b e = e
-waits_on s own w (Headed j) x (To g) false a b e = refl
-waits_on s own w (Halved j m) x (To g) true a b e = refl
-waits_on s own w (Halved j m) x (To g) false a b e = absurd (none_passed x.kind g b a)
-waits_on s own w (Paired j) x (To g) true a b e = e
-waits_on s own w (Paired j) x (To g) false a b e = refl
+waits_on s own w r x None o a b e = refl
+waits_on s own w Start x (Some g) true a b e = refl
+waits_on s own w Start x (Some g) false a b e = refl
+waits_on s own w (Typed f) x (Some g) true a b e = refl
+waits_on s own w (Typed f) x (Some g) false a b e = refl
+waits_on s own w (Headed j) x (Some g) true a b e = e
+waits_on s own w (Headed j) x (Some g) false a b e = refl
+waits_on s own w (Halved j m) x (Some g) true a b e = refl
+waits_on s own w (Halved j m) x (Some g) false a b e = absurd (none_passed x.kind g b a)
+waits_on s own w (Paired j) x (Some g) true a b e = e
+waits_on s own w (Paired j) x (Some g) false a b e = refl
 
 -- the same of any course
 waits : (s own w : List ℕ) (c : Course) (x : Box) → own ≡ whole s x.at → waits_after (and_box own w c x) own ≡ waiting s (and_box own w c x)
 unfolding and_box
-waits s own w (Broken p) x e = refl
-waits s own w (On r) x e = waits_on s own w r x (step6 (stage_of r) x.kind) (ordered x.kind) refl refl e
+waits s own w (Err p) x e = refl
+waits s own w (Ok r) x e = waits_on s own w r x (step6 (stage_of r) x.kind) (ordered x.kind) refl refl e
 
 module _ (s : List ℕ) where
   -- what a course and a forest from a place on come to, after so many boxes
   abbrev comes : Course → ℕ → List Box → Forest → Judged
-  comes c n xs f = on_framing (framing (with29 s f) 0 n) (λ _. course_end (length s) (course_from s c xs)) (λ k p. Refused k 0 p)
+  comes c n xs f = on_framing (framing (with29 s f) 0 n) (λ _. course_end (length s) (course_from s c xs)) (λ k p. breaks k 0 p)
 
   -- a broken header
-  broken_header : (c : Course) (at n k : ℕ) → Refused (number_broken (drop at s) n k) 0 at ≡ comes c n [] (bad k at)
+  broken_header : (c : Course) (at n k : ℕ) → breaks (number_broken (drop at s) n k) 0 at ≡ comes c n [] (bad k at)
   unfolding with29 framing rule5
   broken_header c at n k =
       rw (kind_rest s at, size_rest s at, zero-add at)
       (by (leb box_limit n) (when (eqb k 4) (when (large (kind_of s at) (size_of s at)) 29 4) k))
     where
       by : (t : Bool) (i : ℕ)
-          → Refused (when t 5 i) 0 at
-          ≡ on_framing (when t (Misframed 5 at) (Misframed i at)) (λ _. course_end (length s) (course_from s c [])) (λ k p. Refused k 0 p)
+          → breaks (when t 5 i) 0 at
+          ≡ on_framing (when t (unframed 5 at) (unframed i at)) (λ _. course_end (length s) (course_from s c [])) (λ k p. breaks k 0 p)
       by true i = refl
       by false i = refl
 
@@ -135,7 +125,7 @@ module _ (s : List ℕ) where
     -- 5 and 29 at it, what is inside it, and what comes after it
     framed_box : (i : Forest) (a : ℕ → Judged) (r : Forest) (xs : List Box)
         → ((m : ℕ) → a m ≡ comes (and_box (whole s at) (waiting s c) c box) m xs r)
-        → on_framing (rule5 n at (when (large k z) (Misframed 29 at) (framing i (at + h) (n + 1)))) a (λ i p. Refused i 0 p)
+        → on_framing (rule5 n at (when (large k z) (unframed 29 at) (framing i (at + h) (n + 1)))) a (λ i p. breaks i 0 p)
         ≡ comes c n (box ∷ xs) (node box i r)
     unfolding with29 framing rule5 course_from
     framed_box i a r xs e = by (large k z)
@@ -144,23 +134,23 @@ module _ (s : List ℕ) where
         then_on m = course_end (length s) (course_from s (and_box (whole s at) (waiting s c) c box) xs)
 
         refuse : ℕ → ℕ → Judged
-        refuse j p = Refused j 0 p
+        refuse j p = breaks j 0 p
 
         inner : (t : Bool) (q : Framing)
-            → on_framing (when t (Misframed 5 at) q) a refuse
-            ≡ on_framing (when t (Misframed 5 at) (on_framing q (λ m. framing (with29 s r) 0 m) (λ k p. Misframed k p))) then_on refuse
+            → on_framing (when t (unframed 5 at) q) a refuse
+            ≡ on_framing (when t (unframed 5 at) (on_framing q (λ m. framing (with29 s r) 0 m) (λ k p. unframed k p))) then_on refuse
         inner true q = refl
-        inner false (Framed m) = e m
-        inner false (Misframed j p) = refl
+        inner false (Ok m) = e m
+        inner false (Err e) = refl
 
         large_box : (t : Bool)
-            → on_framing (when t (Misframed 5 at) (Misframed 29 at)) a refuse
-            ≡ on_framing (when t (Misframed 5 at) (Misframed 29 at)) then_on refuse
+            → on_framing (when t (unframed 5 at) (unframed 29 at)) a refuse
+            ≡ on_framing (when t (unframed 5 at) (unframed 29 at)) then_on refuse
         large_box true = refl
         large_box false = refl
 
         by : (u : Bool)
-            → on_framing (rule5 n at (when u (Misframed 29 at) (framing i (at + h) (n + 1)))) a refuse
+            → on_framing (rule5 n at (when u (unframed 29 at) (framing i (at + h) (n + 1)))) a refuse
             ≡ on_framing (framing (when u (bad 29 at) (node box i (with29 s r))) 0 n) then_on refuse
         by true = rw (zero-add at) (large_box (leb box_limit n))
         by false = rw (zero-add at) (inner (leb box_limit n) (framing i (at + h) (n + 1)))
@@ -216,31 +206,31 @@ module _ (s : List ℕ) where
   -- what the rest of a slice comes to is what its forest and its boxes from there on come to
   pub rest_comes : (c : Course) (at n : ℕ) → at ≤ length s
       → rest (waiting s c) c at n (drop at s)
-      ≡ on_framing (framing (with29 s (forest Top s at)) 0 n) (λ _. course_end (length s) (course_from s c (boxes s at))) (λ k p. Refused k 0 p)
+      ≡ on_framing (framing (with29 s (forest Top s at)) 0 n) (λ _. course_end (length s) (course_from s c (boxes s at))) (λ k p. breaks k 0 p)
   rest_comes c at n u = rest_left (length s) c at n u (omega arith)
 
   -- the whole, from the start on
-  pub rest_whole : rest [] (On Start) 0 0 s ≡ on_framing (framed_with29 s) (λ _. course_of s) (λ k p. Refused k 0 p)
+  pub rest_whole : rest [] (Ok Start) 0 0 s ≡ on_framing (framed_with29 s) (λ _. course_of s) (λ k p. breaks k 0 p)
   unfolding course_of
-  rest_whole = rest_comes (On Start) 0 0 (omega arith)
+  rest_whole = rest_comes (Ok Start) 0 0 (omega arith)
 
   -- the first boundary is the first start
-  first_is : first_boundary s ≡ start_value (first_tick_of s (chunks s))
+  first_is : first_boundary s ≡ unwrap_or (first_tick_of s (chunks s)) 0
   unfolding first_boundary boundaries ticks last_end in_fragments
   first_is = by (chunks s)
     where
       by : (xs : List ℕ)
-          → get_or (map (start_at s) (first_moofs (in_fragments (sync_at s (header_of s)) xs)) ++ end_list (last_end s (header_of s) Unset xs)) 0 0
-          ≡ start_value (first_tick_of s xs)
+          → get_or (map (start_at s) (first_moofs (in_fragments (sync_at s (header_of s)) xs)) ++ end_list (last_end s (header_of s) None xs)) 0 0
+          ≡ unwrap_or (first_tick_of s xs) 0
       by [] = refl
       by (x ∷ xs) = refl
 
   -- and the last boundary the last end
-  last_is : last_boundary s ≡ end_value (end_of_track s)
+  last_is : last_boundary s ≡ unwrap_or (end_of_track s) 0
   unfolding last_boundary boundaries ticks fragment_count fragments
   last_is = by (end_of_track s)
     where
-      by : (e : Previous) → get_or (map (start_at s) (first_moofs (fragments s)) ++ end_list e) (length (fragments s)) 0 ≡ end_value e
+      by : (e : Option ℕ) → get_or (map (start_at s) (first_moofs (fragments s)) ++ end_list e) (length (fragments s)) 0 ≡ unwrap_or e 0
       by e =
           let moofs = first_moofs (fragments s) in
           let many : length moofs ≡ length (fragments s) = length-map (fragments s) (λ f. f.first) in
@@ -249,20 +239,20 @@ module _ (s : List ℕ) where
           ∙ get_or-append-add (map (start_at s) moofs) (end_list e) 0 0
           ∙ value e
         where
-          value : (e : Previous) → get_or (end_list e) 0 0 ≡ end_value e
-          value Unset = refl
-          value (End t) = refl
+          value : (e : Option ℕ) → get_or (end_list e) 0 0 ≡ unwrap_or e 0
+          value None = refl
+          value (Some t) = refl
 
   -- what is answered by a framing and the rules after it is what the written rule says by them
   answered_by : (q : Framing) (r : Rule)
-      → answer_of (on_framing q (λ _. judged_by r (facts_of s)) (λ k p. Refused k 0 p))
+      → answer_of (on_framing q (λ _. judged_by r (facts_of s)) (λ k p. breaks k 0 p))
       ≡ on_rule (framing_rule q then r)
       (λ _. accepted_between (fragment_count s) (timescale s) (first_boundary s) (last_boundary s))
       (λ n k p. refused_as n k p)
   unfolding answer_of judged_by facts_of timescale ◌then◌
-  answered_by (Framed n) Holds = rw (first_is, last_is)
-  answered_by (Framed n) (Breaks k t p) = refl
-  answered_by (Misframed k p) r = refl
+  answered_by (Ok n) (Ok u) = rw (first_is, last_is)
+  answered_by (Ok n) (Err e) = refl
+  answered_by (Err e) r = refl
 
 -- over the byte limit rule 1 decides
 pub begins_over : (s : List ℕ) → byte_limit < length s → refused_as 1 0 0 ≡ answer_for s
@@ -271,10 +261,10 @@ begins_over s h = rw (lt-leb (length s) byte_limit h)
 
 -- the state of a start: no byte, no box
 abbrev pub opening : Progress
-opening = record { phase = Head 0; total = 0; boxes = 0; course = On Start }
+opening = record { phase = Head 0; total = 0; boxes = 0; course = Ok Start }
 
 -- from the start on what is answered for bytes is what the written rule says of them
-pub rest_begins : (s : List ℕ) → length s ≤ byte_limit → answer_of (rest [] (On Start) 0 0 s) ≡ answer_for s
+pub rest_begins : (s : List ℕ) → length s ≤ byte_limit → answer_of (rest [] (Ok Start) 0 0 s) ≡ answer_for s
 unfolding answer_for ruling_in_pieces rule1 must ◌then◌
 rest_begins s h = rw (rest_whole s, one_pass s, le-leb (length s) byte_limit h) (answered_by s (framed_with29 s) _)
 
@@ -284,7 +274,7 @@ unfolding comes_to comes_by answer_of
 opening_comes head kept more = by (ltb byte_limit (length more)) refl
   where
     by : (t : Bool) → ltb byte_limit (length more) ≡ t
-        → answer_of (when (ltb byte_limit (0 + length more)) (Refused 1 0 0) (rest [] (On Start) 0 0 more)) ≡ answer_for more
+        → answer_of (when (ltb byte_limit (0 + length more)) (breaks 1 0 0) (rest [] (Ok Start) 0 0 more)) ≡ answer_for more
     by true e = rw (zero-add (length more), e) (begins_over more (ltb-true byte_limit (length more) e))
     by false e = rw (zero-add (length more), e) (rest_begins more (ltb-false byte_limit (length more) e))
 

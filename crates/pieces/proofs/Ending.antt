@@ -16,9 +16,9 @@ use Rattle.rules.specs.Limits.{byte_limit, box_limit, gather_limit}
 use Rattle.rules.specs.Boxes.{sized, look_at, look, head_of, size_of, kind_of}
 use Rattle.rules.specs.Course.{course_end}
 use Rattle.rules.specs.Pieces.{gathered, large}
-use Rattle.rules.specs.declared.Course.{Course}
-use Rattle.rules.specs.declared.Judged.TheVariants.{Refused}
+use Rattle.rules.specs.Rules.{Course, breaks}
 use Rattle.rules.specs.declared.Look.TheVariants.{Short, Beyond}
+use Rattle.rules.specs.declared.Misframed.{Misframed}
 use Rattle.pieces.specs.State.{kept_moof, comes_by, comes_to, no_verdict}
 use Rattle.pieces.specs.Steps.{Sound}
 use Rattle.pieces.specs.declared.state.Phase.{Phase}
@@ -29,7 +29,7 @@ use Rattle.pieces.proofs.Whole.{front_reads, size_whole, look_whole}
 use Rattle.pieces.proofs.Soundness.{PartLength, PartHeader, PartBox, SoundPhase, sound_says}
 
 -- rule 1 comes before all
-pub ends_over : (st : Progress) (head kept : List ℕ) → byte_limit < st.total → Refused 1 0 0 ≡ comes_to st head kept []
+pub ends_over : (st : Progress) (head kept : List ℕ) → byte_limit < st.total → breaks 1 0 0 ≡ comes_to st head kept []
 unfolding comes_to
 ends_over st head kept h = rw (add-zero st.total, lt-ltb byte_limit st.total h)
 
@@ -71,18 +71,18 @@ module _ (c : Course) (total n b : ℕ) (head kept : List ℕ) where
 
   -- in the middle of a header: 2, or 5
   pub ends_header : length head ≡ 16 → (n ≡ 0 → ⊥) → PartHeader n total head
-      → Refused (when (leb box_limit b) 5 2) 0 (total - n) ≡ comes_by (Head n) c total b head kept []
+      → breaks (when (leb box_limit b) 5 2) 0 (total - n) ≡ comes_by (Head n) c total b head kept []
   unfolding comes_by
   ends_header e p h =
       sym (rest_by_lem (kept_moof c kept) c (total - n) b (take n head ++ []) Short (short_part n head e (omega arith) h.short))
 
   -- in the middle of a gathered box: 4, or 5
   pub ends_box : length kept ≡ gather_limit → PartBox n total c kept
-      → Refused (when (leb box_limit b) 5 4) 0 (total - n) ≡ comes_by (Keep n) c total b head kept []
+      → breaks (when (leb box_limit b) 5 4) 0 (total - n) ≡ comes_by (Keep n) c total b head kept []
   unfolding comes_by large sized
   ends_box e h =
       sym (rest_by_lem [] c (total - n) b (take n kept ++ []) Beyond beyond
-      ∙ ap (λ (t : Bool). Refused (when (leb box_limit b) 5 (when t 29 4)) 0 (total - n)) small)
+      ∙ ap (λ (t : Bool). breaks (when (leb box_limit b) 5 (when t 29 4)) 0 (total - n)) small)
     where
       there : n ≤ length kept
       there = omega (arith, h.short, h.small)
@@ -102,7 +102,7 @@ module _ (c : Course) (total n b : ℕ) (head kept : List ℕ) where
           (never (gathered (kind_of (take n kept ++ []) 0)))
 
   -- in the middle of a box that passes by
-  pub ends_passing : (l p : ℕ) → 0 < l → Refused 4 0 p ≡ comes_by (Skip l p) c total b head kept []
+  pub ends_passing : (l p : ℕ) → 0 < l → breaks 4 0 p ≡ comes_by (Skip l p) c total b head kept []
   unfolding comes_by
   ends_passing l p h = rw (lt-ltb 0 l h)
 
@@ -129,20 +129,20 @@ module _ (st : Progress) (head kept : List ℕ) (s : Sound st head kept) where
     ended_between n e z = ends_between st.course st.total n st.boxes head kept z ∙ by_phase (Head n) e
 
     pub ended_header : (n : ℕ) → st.phase ≡ Head n → (n ≡ 0 → ⊥)
-        → Refused (when (leb box_limit st.boxes) 5 2) 0 (st.total - n) ≡ comes_to st head kept []
+        → breaks (when (leb box_limit st.boxes) 5 2) 0 (st.total - n) ≡ comes_to st head kept []
     ended_header n e z =
         ends_header st.course st.total n st.boxes head kept s.bytes z (says (Head n) e) ∙ by_phase (Head n) e
 
-    pub ended_box : (n : ℕ) → st.phase ≡ Keep n → Refused (when (leb box_limit st.boxes) 5 4) 0 (st.total - n) ≡ comes_to st head kept []
+    pub ended_box : (n : ℕ) → st.phase ≡ Keep n → breaks (when (leb box_limit st.boxes) 5 4) 0 (st.total - n) ≡ comes_to st head kept []
     ended_box n e = ends_box st.course st.total n st.boxes head kept s.room (says (Keep n) e) ∙ by_phase (Keep n) e
 
-    pub ended_passing : (k p : ℕ) → st.phase ≡ Skip k p → Refused 4 0 p ≡ comes_to st head kept []
+    pub ended_passing : (k p : ℕ) → st.phase ≡ Skip k p → breaks 4 0 p ≡ comes_to st head kept []
     ended_passing k p e = ends_passing st.course st.total 0 st.boxes head kept k p (says (Skip k p) e) ∙ by_phase (Skip k p) e
 
-    pub ended_stopped : (k p : ℕ) → st.phase ≡ Stopped k p → Refused k 0 p ≡ comes_to st head kept []
+    pub ended_stopped : (b : Misframed) → st.phase ≡ Stopped b → breaks b.number 0 b.place ≡ comes_to st head kept []
     unfolding comes_by
-    ended_stopped k p e = by_phase (Stopped k p) e
+    ended_stopped b e = by_phase (Stopped b) e
 
-    pub ended_unstarted : st.phase ≡ Unstarted → Refused no_verdict 0 0 ≡ comes_to st head kept []
+    pub ended_unstarted : st.phase ≡ Unstarted → breaks no_verdict 0 0 ≡ comes_to st head kept []
     unfolding comes_by
     ended_unstarted e = by_phase Unstarted e

@@ -1,19 +1,19 @@
 -- Bytes that are held: of a header that is not whole, and of a box that is gathered.
 use mathlib.Core.Path.{◌≡◌, refl, sym, ap, ◌∙◌}
 use mathlib.Core.Bool.{Bool, true, false, true≢false, ◌&&◌, ◌||◌}
-use mathlib.Core.Logic.{◌⊎◌, ⊎_elim}
+use mathlib.Core.Logic.{◌⊎◌, inl, inr, ⊎_elim}
 use mathlib.Core.List.{List, [], ◌++◌, append_assoc}
-use Prim.Native.Nat.{ℕ, ◌+◌, ◌-◌, ◌≤◌, ◌<◌}
+use Prim.Native.Nat.{ℕ, ◌+◌, ◌-◌, ◌≤◌, ◌<◌, min}
 use native.Mathlib.Omega.{arith}
 use lib.ListN.{length, take, drop}
-use lib.Seq.{paste, length-paste}
+use lib.Seq.{paste, length-paste, length-take-le}
 use lib.Dec.{ltb, eqb}
 use borrow.Author.Tests.{lt-ltb, le-leb, ltb-true, ltb-false, eq-eqb}
 use Rattle.numbers.specs.Numbers.{be4, when}
 use Rattle.numbers.proofs.Bounds.{reads4}
 use Rattle.rules.specs.Limits.{gather_limit}
 use Rattle.rules.specs.Boxes.{head_of, size_of}
-use Rattle.rules.specs.declared.Course.{Course}
+use Rattle.rules.specs.Rules.{Course}
 use Rattle.pieces.specs.Rest.{rest}
 use Rattle.pieces.specs.State.{sound_phase, open_header, kept_moof, comes_by}
 use Rattle.pieces.specs.Steps.{header_end, MeansAnyway, MeansHeaded, Gathered, after_gathered, Whole, Follows, TakesSome}
@@ -30,8 +30,12 @@ pub record Used (wanted there used : ℕ) : Type 0 where
   pub within : used ≤ there
   pub most : (used ≡ wanted) ⊎ (used ≡ there)
 
-pub used_of : {wanted there used : ℕ} → (used ≤ wanted) × (used ≤ there) → (used ≡ wanted) ⊎ (used ≡ there) → Used wanted there used
-used_of l m = record { wants = l.0; within = l.1; most = m }
+pub used_of : {wanted there used : ℕ} → used ≡ min there wanted → Used wanted there used
+used_of {wanted} {there} {used} e = record { wants = omega (arith, e); within = omega (arith, e); most = by (ltb there wanted) refl }
+  where
+    by : (t : Bool) → ltb there wanted ≡ t → (used ≡ wanted) ⊎ (used ≡ there)
+    by true q = inr (omega (arith, e, ltb-true there wanted q))
+    by false q = inl (omega (arith, e, ltb-false there wanted q))
 
 -- of some that are wanted and some that are there, some are taken
 used_some : {wanted there used : ℕ} → Used wanted there used → 0 < wanted → 0 < there → 0 < used
@@ -85,8 +89,8 @@ module _ {c : Course} {total n i used : ℕ} {head kept more : List ℕ} (f : Fo
   pub held_bytes : length held ≡ 16
   held_bytes = length-paste head i more used fits u.within ∙ f.bytes
 
-  pub held_copies : (i + used ≤ length head) × (used ≤ length more)
-  held_copies = (fits, u.within)
+  pub held_copies : i + length (take used more) ≤ length head
+  held_copies = omega (arith, fits, length-take-le used more u.within)
 
   -- it is not whole yet
   pub header_on : open_header held (i + used) ≡ true
@@ -168,8 +172,8 @@ module _ {c : Course} {total n i used : ℕ} {head kept more : List ℕ} (f : Fo
   fills : i + used ≤ length kept
   fills = omega (arith, told.short, told.small, u.wants, f.room)
 
-  pub filled_copies : (i + used ≤ length kept) × (used ≤ length more)
-  filled_copies = (fills, u.within)
+  pub filled_copies : i + length (take used more) ≤ length kept
+  filled_copies = omega (arith, fills, length-take-le used more u.within)
 
   filled_room : length filled ≡ gather_limit
   filled_room = length-paste kept i more used fills u.within ∙ f.room
@@ -210,9 +214,12 @@ module _ {c : Course} {total n i used : ℕ} {head kept more : List ℕ} (f : Fo
         same = λ t. held_on kept more i used (omega (arith, fills)) u.within [] c total n t;
       }
 
-  -- it is whole
-  pub box_whole : i + used ≡ size_of kept 0 → Gathered c (total + used) n (size_of kept 0) filled
-  box_whole e =
+  -- it is whole: no more are taken than to its end
+  box_reached : size_of kept 0 ≤ i + used → i + used ≡ size_of kept 0
+  box_reached b = omega (arith, b, u.wants, told.short)
+
+  pub box_whole : size_of kept 0 ≤ i + used → Gathered c (total + used) n (size_of kept 0) filled
+  box_whole b = let e = box_reached b in
       record {
         ready =
             record {
@@ -227,10 +234,10 @@ module _ {c : Course} {total n i used : ℕ} {head kept more : List ℕ} (f : Fo
         alone = told.alone;
       }
 
-  pub box_taken : i + used ≡ size_of kept 0 → {r : Progress} → MeansAnyway (after_gathered c (total + used) n (size_of kept 0) filled) (total + used) r filled
+  pub box_taken : size_of kept 0 ≤ i + used → {r : Progress} → MeansAnyway (after_gathered c (total + used) n (size_of kept 0) filled) (total + used) r filled
       → TakesSome (Keep i) c total n head kept more (record { state = r; used = used }) head filled
   unfolding comes_by
-  box_taken e a =
+  box_taken b a = let e = box_reached b in
       record {
         some = used_some u (omega (arith, told.short)) f.some;
         within = u.within;

@@ -12,9 +12,8 @@ use Rattle.numbers.specs.Numbers.{when}
 use Rattle.rules.specs.Limits.{box_limit, gather_limit}
 use Rattle.rules.specs.Boxes.{head_of, size_of, kind_of}
 use Rattle.rules.specs.Pieces.{gathered, large}
-use Rattle.rules.specs.declared.Course.{Course}
-use Rattle.rules.specs.declared.Course.TheVariants.{On, Broken}
-use Rattle.rules.specs.declared.Judged.TheVariants.{Refused}
+use Rattle.rules.specs.Rules.{Course, breaks}
+use Rattle.std.specs.Prelude.{Ok, Err}
 use Rattle.rules.specs.declared.Reached.TheVariants.{Start, Typed, Headed, Halved, Paired}
 use Rattle.rules.specs.declared.Spot.{Spot}
 use Rattle.pieces.specs.Rest.{rest}
@@ -32,19 +31,19 @@ use Rattle.pieces.proofs.Meaning.{stopped_sound}
 -- a course in which no `moof` waits is sound whatever the buffer holds
 pub alone_sound : (c : Course) (n : ℕ) (kept buf : List ℕ) → halved c ≡ false → sound_course c n kept ≡ true → sound_course c n buf ≡ true
 unfolding sound_course halved
-alone_sound (On Start) n kept buf e s = s
-alone_sound (On (Typed f)) n kept buf e s = s
-alone_sound (On (Headed j)) n kept buf e s = s
-alone_sound (On (Halved j m)) n kept buf e s = absurd (true≢false e)
-alone_sound (On (Paired j)) n kept buf e s = s
-alone_sound (Broken p) n kept buf e s = s
+alone_sound (Ok Start) n kept buf e s = s
+alone_sound (Ok (Typed f)) n kept buf e s = s
+alone_sound (Ok (Headed j)) n kept buf e s = s
+alone_sound (Ok (Halved j m)) n kept buf e s = absurd (true≢false e)
+alone_sound (Ok (Paired j)) n kept buf e s = s
+alone_sound (Err p) n kept buf e s = s
 
 -- the course where a box that is gathered begins: no `moof` waits, and it is sound
 begins_alone : (c : Course) (at : ℕ) → halved (beginning_at c at) ≡ false
 unfolding halved
 begins_alone c at = by (halved c) refl
   where
-    by : (t : Bool) → halved c ≡ t → halved (when t (Broken at) c) ≡ false
+    by : (t : Bool) → halved c ≡ t → halved (when t (Err at) c) ≡ false
     by true e = refl
     by false e = e
 
@@ -52,7 +51,7 @@ begins_sound : (c : Course) (at n : ℕ) (kept buf : List ℕ) → sound_course 
 unfolding sound_course
 begins_sound c at n kept buf s = by (halved c) refl
   where
-    by : (t : Bool) → halved c ≡ t → sound_course (when t (Broken at) c) n buf ≡ true
+    by : (t : Bool) → halved c ≡ t → sound_course (when t (Err at) c) n buf ≡ true
     by true e = refl
     by false e = alone_sound c n kept buf e s
 
@@ -66,16 +65,16 @@ module _ {c : Course} {total n h : ℕ} {head kept : List ℕ} (g : Whole c tota
   by_header t = ap (λ (i : ℕ). rest (kept_moof c kept) c (total - h) n (take i head ++ t)) g.said
 
   -- a refusal
-  refused_by_lem : (k : ℕ) → ((t : List ℕ) → rest (kept_moof c kept) c (total - h) n (take (head_of head 0) head ++ t) ≡ Refused k 0 (total - h))
-      → MeansHeaded c total n h (stopped_at total k (total - h)) head kept kept
+  refused_by_lem : (k : ℕ) → ((t : List ℕ) → rest (kept_moof c kept) c (total - h) n (take (head_of head 0) head ++ t) ≡ breaks k 0 (total - h))
+      → MeansHeaded c total n h (stopped_at total (record { number = k; place = total - h })) head kept kept
   unfolding comes_by
   refused_by_lem k f =
-      record { sum = refl; sound = stopped_sound total k (total - h) head kept; same = λ t. by_header t ∙ f t }
+      record { sum = refl; sound = stopped_sound total _ head kept; same = λ t. by_header t ∙ f t }
 
-  pub headed_5 : box_limit ≤ n → MeansHeaded c total n h (stopped_at total 5 (total - h)) head kept kept
+  pub headed_5 : box_limit ≤ n → MeansHeaded c total n h (stopped_at total (record { number = 5; place = total - h })) head kept kept
   headed_5 m = refused_by_lem 5 (λ t. decided_5 head t (kept_moof c kept) c (total - h) n in_head m)
 
-  pub headed_3 : n < box_limit → size_of head 0 < h → MeansHeaded c total n h (stopped_at total 3 (total - h)) head kept kept
+  pub headed_3 : n < box_limit → size_of head 0 < h → MeansHeaded c total n h (stopped_at total (record { number = 3; place = total - h })) head kept kept
   headed_3 m z = refused_by_lem 3 (λ t. decided_3 head t (kept_moof c kept) c (total - h) n in_head m (omega (arith, z, g.said)))
 
   -- a box that passes by
@@ -107,7 +106,13 @@ module _ {c : Course} {total n h : ℕ} {head kept : List ℕ} (g : Whole c tota
         }
 
 -- a header of a box to gather
-module _ {c : Course} {total n h size : ℕ} {head kept : List ℕ} (g : Gathers c total n h size head kept) where
+module _ {c : Course} {total n : ℕ} {b : Spot} {head kept : List ℕ} (g : Gathers c total n b head kept) where
+  abbrev h : ℕ
+  h = b.head
+
+  abbrev size : ℕ
+  size = b.size
+
   abbrev buf : List ℕ
   buf = paste kept 0 head h
 
@@ -118,7 +123,7 @@ module _ {c : Course} {total n h size : ℕ} {head kept : List ℕ} (g : Gathers
   in_bytes = omega (arith, (head_length head 0).1, g.whole.said, g.whole.bytes)
 
   -- 29
-  pub gathered_29 : gather_limit < size → MeansHeaded c total n h (stopped_at total 29 (total - h)) head kept kept
+  pub gathered_29 : gather_limit < size → MeansHeaded c total n h (stopped_at total (record { number = 29; place = total - h })) head kept kept
   unfolding large
   gathered_29 l =
       refused_by_lem g.whole 29
@@ -142,11 +147,11 @@ module _ {c : Course} {total n h size : ℕ} {head kept : List ℕ} (g : Gathers
   begins : (t : List ℕ) → after_header c total n h head kept t ≡ rest [] begun (total - h) n (take h buf ++ t)
   begins t = by (halved c) refl ∙ ap (λ (a : List ℕ). rest [] begun (total - h) n (a ++ t)) (sym buf_front)
     where
-      by : (o : Bool) → halved c ≡ o → after_header c total n h head kept t ≡ rest [] (when o (Broken (total - h)) c) (total - h) n (take h head ++ t)
+      by : (o : Bool) → halved c ≡ o → after_header c total n h head kept t ≡ rest [] (when o (Err (total - h)) c) (total - h) n (take h head ++ t)
       by true e =
           by_header g.whole t
           ∙ decided_order head t (kept_moof c kept) c (total - h) n (in_head g.whole) e (no_mdat (kind_of head 0) g.kind)
-          ∙ ap (λ (i : ℕ). rest [] (Broken (total - h)) (total - h) n (take i head ++ t)) (sym g.whole.said)
+          ∙ ap (λ (i : ℕ). rest [] (Err (total - h)) (total - h) n (take i head ++ t)) (sym g.whole.said)
       by false e = ap (λ (w : List ℕ). rest w c (total - h) n (take h head ++ t)) (none_kept c kept e)
 
   module _ (l : size ≤ gather_limit) where

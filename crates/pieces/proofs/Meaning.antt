@@ -7,17 +7,17 @@ use native.Mathlib.Omega.{arith}
 use lib.ListN.{length, take}
 use lib.Seq.{length-take-le}
 use lib.Dec.{leb, ltb}
-use borrow.Author.Tests.{lt-ltb, le-ltb, leb-false, ltb-true, ltb-false}
+use borrow.Author.Tests.{le-ltb, leb-false, ltb-false}
 use Rattle.numbers.specs.Numbers.{when}
 use Rattle.rules.specs.Limits.{box_limit}
 use Rattle.rules.specs.Boxes.{sized, look, forest, boxes, head_of, size_of, kind_of}
 use Rattle.rules.specs.Framing.{rule5, framing}
 use Rattle.rules.specs.Course.{and_box}
-use Rattle.rules.specs.declared.Course.{Course}
-use Rattle.rules.specs.declared.Framing.{Framing}
-use Rattle.rules.specs.declared.Framing.TheVariants.{Framed, Misframed}
+use Rattle.rules.specs.Rules.{Course, Framing, unframed}
+use Rattle.std.specs.Prelude.{Ok, Err}
 use Rattle.rules.specs.declared.Look.TheVariants.{Good}
 use Rattle.rules.specs.declared.Path.TheVariants.{Top}
+use Rattle.rules.specs.declared.Misframed.{Misframed}
 use Rattle.rules.specs.declared.Spot.{Spot}
 use Rattle.rules.proofs.Forest.{look_found, look_nothing, never, forest_box, forest_nothing}
 use Rattle.boxes.specs.Stands.{WholeBox}
@@ -34,16 +34,16 @@ use Rattle.pieces.proofs.Soundly.{small_size, sound_gathered, sound_passed, fits
 use Rattle.pieces.proofs.Taking.{state_by, sound_by, sound_between}
 
 -- a framing refusal means itself
-pub stopped_sound : (total k p : ℕ) (head kept : List ℕ) → sound (stopped_at total k p) head kept ≡ true
+pub stopped_sound : (total : ℕ) (e : Misframed) (head kept : List ℕ) → sound (stopped_at total e) head kept ≡ true
 unfolding sound sound_phase sound_course
-stopped_sound total k p head kept = refl
+stopped_sound total e head kept = refl
 
 -- a run of one box that is framed has fewer boxes before it than the limit
-under_limit : (own : List ℕ) (at n h z k m : ℕ) → look own 0 ≡ Good h z k → framing (forest Top own 0) at n ≡ Framed m → n < box_limit
+under_limit : (own : List ℕ) (at n h z k m : ℕ) → look own 0 ≡ Good h z k → framing (forest Top own 0) at n ≡ Ok m → n < box_limit
 unfolding framing rule5
 under_limit own at n h z k m e f = by (leb box_limit n) refl _ (rw (forest_box Top own 0 h z k e) at f)
   where
-    by : (t : Bool) → leb box_limit n ≡ t → (y : Framing) → when t (Misframed 5 (at + 0)) y ≡ Framed m → n < box_limit
+    by : (t : Bool) → leb box_limit n ≡ t → (y : Framing) → when t (unframed 5 (at + 0)) y ≡ Ok m → n < box_limit
     by true q y r = never (cc)
     by false q y r = leb-false box_limit n q
 
@@ -71,24 +71,24 @@ module _ {c : Course} {total n size : ℕ} {kept : List ℕ} (g : Gathered c tot
   read_size e = let q = sym e ∙ own_look in (cc, cc)
 
   -- no byte stands there: it has some
-  pub settled_nothing : {A : Type 0} → framing (forest Top own 0) (total - size) n ≡ Framed n → boxes own 0 ≡ [] → A
+  pub settled_nothing : {A : Type 0} → framing (forest Top own 0) (total - size) n ≡ Ok n → boxes own 0 ≡ [] → A
   settled_nothing e f =
       let z : ⊥ = omega (arith, nothing_there own (total - size) n e f, own_length, g.holds, (head_length kept 0).0) in absurd z
 
   -- it is refused
-  pub settled_refused : {i p : ℕ} → framing (forest Top own 0) (total - size) n ≡ Misframed i p
-      → MeansAnyway (after_gathered c total n size kept) total (stopped_at total i p) kept
+  pub settled_refused : {e : Misframed} → framing (forest Top own 0) (total - size) n ≡ Err e
+      → MeansAnyway (after_gathered c total n size kept) total (stopped_at total e) kept
   unfolding comes_by
-  settled_refused {i} {p} f head =
+  settled_refused {e} f head =
       record {
         sum = refl;
-        sound = stopped_sound total i p head kept;
+        sound = stopped_sound total e head kept;
         same = λ t. settled_bad kept t c (total - size) n (head_of kept 0) size (kind_of kept 0) room own_look (small_size (kind_of kept 0) size g.small) f;
       }
 
   -- it is framed, and past it
   module _ (h z k m : ℕ) (f : framing (forest Top own 0) (total - size) n ≡ framing (forest Top own (0 + z)) (total - size) m) (e : look own 0 ≡ Good h z k) where
-    framed_own : framing (forest Top own 0) (total - size) n ≡ Framed m
+    framed_own : framing (forest Top own 0) (total - size) n ≡ Ok m
     unfolding framing
     framed_own =
         f ∙ ap (λ (a : _). framing a (total - size) m) (forest_nothing Top own (0 + z) (look_nothing own (0 + z) (omega (arith, own_length, (read_size e).1))))
@@ -185,9 +185,9 @@ module _ {c : Course} {total n : ℕ} {b : Spot} {k : ℕ} {kept : List ℕ} (g 
 
   -- it is taken into the course
   pub passed_means : {d : Course} → d ≡ and_box [] (take (waits_in c) kept) c (box_of b k)
-      → MeansAnyway (after_passed c n b k kept) total (state_by (passing_of b) d total (n + 1)) kept
+      → MeansAnyway (after_passed c n b k kept) total (state_by (passing_of (b.size - b.head) b.at) d total (n + 1)) kept
   unfolding comes_by sound_phase
-  passed_means {d} q head = by (ltb b.head b.size) refl
+  passed_means {d} q head = by (ltb 0 (b.size - b.head)) refl
     where
       is : d ≡ and_box [] (kept_moof c kept) c (box_of b k)
       is = q ∙ ap (λ (a : List ℕ). and_box [] a c (box_of b k)) (waits_kept c kept)
@@ -198,18 +198,18 @@ module _ {c : Course} {total n : ℕ} {b : Spot} {k : ℕ} {kept : List ℕ} (g 
           (subst (λ (a : Course). SoundCourse a (n + 1) kept) (sym is)
           (sound_passed [] (kept_moof c kept) c (box_of b k) kept n (ungathered k g.kind) (course_says c n kept g.ready.course)))
 
-      by : (t : Bool) → ltb b.head b.size ≡ t
+      by : (t : Bool) → ltb 0 (b.size - b.head) ≡ t
           → Means (after_passed c n b k kept) total (state_by (when t (Skip (b.size - b.head) b.at) (Head 0)) d total (n + 1)) head kept
       by true e =
           let sum : b.at + b.size ≡ total + (b.size - b.head) = omega (arith, g.place, g.holds) in
           record {
             sum = refl;
-            sound = sound_by _ d total (n + 1) head kept (lt-ltb 0 (b.size - b.head) (omega (arith, ltb-true b.head b.size e))) course;
+            sound = sound_by _ d total (n + 1) head kept e course;
             same = λ t. rw (← is, sum);
           }
       by false e =
-          let none : b.size - b.head ≡ 0 = omega (arith, ltb-false b.head b.size e) in
-          let sum : b.at + b.size ≡ total - 0 = omega (arith, g.place, g.holds, ltb-false b.head b.size e) in
+          let none : b.size - b.head ≡ 0 = omega (arith, ltb-false 0 (b.size - b.head) e) in
+          let sum : b.at + b.size ≡ total - 0 = omega (arith, g.place, g.holds, none) in
           record {
             sum = refl;
             sound = sound_by (Head 0) d total (n + 1) head kept (sound_between d total head kept) course;

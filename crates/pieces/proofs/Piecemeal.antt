@@ -1,17 +1,16 @@
 -- Laws of the loop over a piece: step by step what is left of it comes to the same.
 use mathlib.Core.Path.{◌≡◌, refl, ap, ap₂, ◌∙◌}
 use mathlib.Core.Bool.{false}
-use mathlib.Core.List.{List, ◌++◌}
+use mathlib.Core.List.{List, [], ◌++◌}
 use Prim.Native.Nat.{ℕ, ◌+◌, ◌-◌, ◌≤◌, ◌<◌}
 use native.Mathlib.Omega.{arith}
 use lib.ListN.{length, take, drop, length-append, length-drop}
-use lib.Seq.{take_all, drop-drop, drop-length}
+use lib.Seq.{take_all}
 use lib.Dec.{ltb}
 use borrow.Author.Tests.{lt-ltb}
 use Rattle.numbers.specs.Numbers.{when}
 use Rattle.rules.specs.Limits.{byte_limit}
-use Rattle.rules.specs.declared.Judged.{Judged}
-use Rattle.rules.specs.declared.Judged.TheVariants.{Refused}
+use Rattle.rules.specs.Rules.{Judged, breaks}
 use Rattle.rules.proofs.Laws.{and_first, and_second}
 use Rattle.pieces.specs.State.{state_of, sound_phase, sound_course, sound, comes_to, answer_of}
 use Rattle.pieces.specs.Form.{resume, FeedsFrom}
@@ -20,7 +19,7 @@ use Rattle.pieces.specs.declared.state.Progress.{Progress}
 use Rattle.pieces.specs.declared.step.Moved.{Moved}
 use Rattle.pieces.proofs.Meaning.{stopped_sound}
 
--- the rest of a piece, as the code lends it
+-- the rest behind some bytes, as the code lends it
 pub rest_of_lem : (piece : List ℕ) (i : ℕ) → take (length piece - i) (drop i piece) ≡ drop i piece
 rest_of_lem piece i = take_all (length piece - i) (drop i piece) (omega (arith, length-drop i piece))
 
@@ -31,68 +30,54 @@ unfolding comes_to
 step_comes {st} {head} {kept} {more} {r} {head'} {kept'} s t =
     let l : st.total + length (more ++ t) ≡ r.state.total + length (drop r.used more ++ t) =
     omega (arith, s.sum, s.within, length-append more t, length-append (drop r.used more) t, length-drop r.used more) in
-    ap₂ (λ (a : ℕ) (j : Judged). when (ltb byte_limit a) (Refused 1 0 0) j) l (s.same t)
+    ap₂ (λ (a : ℕ) (j : Judged). when (ltb byte_limit a) (breaks 1 0 0) j) l (s.same t)
 
--- i bytes of a piece are taken
-pub record Going (st : Progress) (head₀ kept₀ piece : List ℕ) (i : ℕ) (state : Progress) (head kept : List ℕ) : Type 0 where
-  pub inner : i ≤ length piece
-  pub limit : st.total + length piece ≤ byte_limit
-  pub sum : state.total ≡ st.total + i
+-- a piece is taken but for the rest of it
+pub record Going (st : Progress) (head₀ kept₀ piece rest : List ℕ) (state : Progress) (head kept : List ℕ) : Type 0 where
+  pub limit : state.total + length rest ≤ byte_limit
   pub sound : Sound state head kept
-  pub same : (t : List ℕ) → comes_to st head₀ kept₀ (piece ++ t) ≡ comes_to state head kept (drop i piece ++ t)
+  pub same : (t : List ℕ) → comes_to st head₀ kept₀ (piece ++ t) ≡ comes_to state head kept (rest ++ t)
 
 pub going_begins : {st : Progress} {head kept piece : List ℕ} → Sound st head kept → st.total + length piece ≤ byte_limit
-    → Going st head kept piece 0 st head kept
-going_begins s l = record { inner = omega arith; limit = l; sum = omega arith; sound = s; same = λ t. refl }
+    → Going st head kept piece piece st head kept
+going_begins s l = record { limit = l; sound = s; same = λ t. refl }
 
-module _ {st : Progress} {head₀ kept₀ piece : List ℕ} {i : ℕ} {state : Progress} {head kept : List ℕ} (g : Going st head₀ kept₀ piece i state head kept) where
+module _ {st : Progress} {head₀ kept₀ piece rest : List ℕ} {state : Progress} {head kept : List ℕ} (g : Going st head₀ kept₀ piece rest state head kept) where
   -- a step may be taken
-  pub going_follows : i < length piece → FollowsState state head kept (take (length piece - i) (drop i piece))
+  pub going_follows : 0 < length rest → FollowsState state head kept rest
   unfolding sound
   going_follows l =
-      rw (rest_of_lem piece i)
-      (record {
-        some = omega (arith, length-drop i piece);
-        limit = omega (arith, length-drop i piece, g.sum, g.limit);
+      record {
+        some = l;
+        limit = g.limit;
         bytes = g.sound.bytes;
         room = g.sound.room;
         phase = and_first _ (sound_course state.course state.boxes kept) g.sound.sound;
         course = and_second (sound_phase state.phase state.course state.total head kept) _ g.sound.sound;
-      })
+      }
 
   -- and leads on
-  pub going_on : {r : Moved} {head' kept' : List ℕ} → TakesState state head kept (take (length piece - i) (drop i piece)) r head' kept'
-      → Going st head₀ kept₀ piece (i + r.used) r.state head' kept'
-  going_on {r} {head'} {kept'} s =
-      let u = rw (rest_of_lem piece i) at s in
+  pub going_on : {r : Moved} {head' kept' : List ℕ} → TakesState state head kept rest r head' kept'
+      → Going st head₀ kept₀ piece (drop r.used rest) r.state head' kept'
+  going_on {r} u =
       record {
-        inner = omega (arith, g.inner, u.within, length-drop i piece);
-        limit = g.limit;
-        sum = omega (arith, u.sum, g.sum);
+        limit = omega (arith, g.limit, u.sum, u.within, length-drop r.used rest);
         sound = record { bytes = u.bytes; room = u.room; sound = u.sound };
-        same = λ t.
-            g.same t ∙ step_comes u t
-            ∙ ap (λ (a : List ℕ). comes_to r.state head' kept' (a ++ t)) (drop-drop r.used i piece);
+        same = λ t. g.same t ∙ step_comes u t;
       }
 
-  -- all of them are taken
-  pub going_ends : length piece ≤ i → ComesSame st head₀ kept₀ piece state head kept
-  going_ends l =
-      let e : i ≡ length piece = omega (arith, g.inner) in
-      record {
-        sound = g.sound;
-        same = λ t.
-            g.same t
-            ∙ ap (λ (a : List ℕ). comes_to state head kept (a ++ t)) (ap (λ (j : ℕ). drop j piece) e ∙ drop-length piece);
-      }
+-- no byte of it is left
+pub going_ends : {st : Progress} {head₀ kept₀ piece : List ℕ} {state : Progress} {head kept : List ℕ}
+    → Going st head₀ kept₀ piece [] state head kept → ComesSame st head₀ kept₀ piece state head kept
+going_ends g = record { sound = g.sound; same = g.same }
 
 -- bytes over the byte limit
 pub goes_over : {st : Progress} {head kept piece : List ℕ} → Sound st head kept → byte_limit < st.total + length piece
-    → ComesSame st head kept piece (stopped_at (byte_limit + 1) 1 0) head kept
+    → ComesSame st head kept piece (stopped_at (byte_limit + 1) (record { number = 1; place = 0 })) head kept
 unfolding comes_to
 goes_over {st} {head} {kept} {piece} s l =
     record {
-      sound = record { bytes = s.bytes; room = s.room; sound = stopped_sound (byte_limit + 1) 1 0 head kept };
+      sound = record { bytes = s.bytes; room = s.room; sound = stopped_sound (byte_limit + 1) _ head kept };
       same = λ t.
           rw (
             lt-ltb byte_limit (st.total + length (piece ++ t)) (omega (arith, length-append piece t)),

@@ -6,22 +6,22 @@ use Prim.Native.Nat.{ℕ, ◌+◌, ◌-◌, ◌<◌, ◌≤◌}
 use native.Mathlib.Omega.{arith}
 use lib.ListN.{length, take, drop, get_or, length-append}
 use lib.Seq.{paste, take-paste, take-length, drop-append-add}
-use lib.Dec.{leb, ltb}
+use lib.Dec.{leb, ltb, eqb}
 use borrow.Author.Tests.{ltb-true, ltb-false, leb-true, leb-false, lt-ltb, le-ltb, le-leb, lt-leb}
 use Rattle.numbers.specs.Numbers.{when}
 use Rattle.rules.specs.Limits.{gather_limit}
 use Rattle.rules.specs.Boxes.{head_of, size_of}
-use Rattle.rules.specs.declared.Course.{Course}
-use Rattle.rules.specs.declared.Course.TheVariants.{On, Broken}
-use Rattle.rules.specs.declared.Judged.TheVariants.{Refused}
+use Rattle.rules.specs.Rules.{Course, breaks}
+use Rattle.std.specs.Prelude.{Ok, Err}
 use Rattle.rules.specs.declared.Reached.TheVariants.{Start, Typed, Headed, Halved, Paired}
 use Rattle.rules.proofs.Laws.{and_first, and_second}
 use Rattle.pieces.specs.Rest.{rest}
 use Rattle.pieces.specs.State.{phase_of, state_of, moved_on, sound_course, halved, open_header, open_box, sound_phase, sound}
 use Rattle.pieces.specs.State.{kept_moof, comes_by, comes_to, answer_of, unstarted}
-use Rattle.pieces.specs.Form.{resume, FeedsFrom, Amid}
+use Rattle.pieces.specs.Form.{resume, FeedsFrom}
+use Rattle.pieces.specs.Steps.{Goes, first_anew}
 use Rattle.pieces.specs.declared.state.Phase.{Phase}
-use Rattle.pieces.specs.declared.state.Phase.TheVariants.{Head, Keep, Skip}
+use Rattle.pieces.specs.declared.state.Phase.TheVariants.{Unstarted, Head, Keep, Skip, Stopped}
 use Rattle.pieces.specs.declared.state.Progress.{Progress}
 use Rattle.pieces.proofs.Whole.{head_whole, size_whole}
 
@@ -59,15 +59,9 @@ open_says kept a o =
       leb-true _ _ (and_second f _ o),
     )
 
--- a phase leads by a piece to another: both can have come from `start` or neither, and whatever follows comes to the same
-pub record Goes (p p' : Phase) (c : Course) (total n : ℕ) (head kept piece head' kept' : List ℕ) : Type 0 where
-  pub sound : (sound_phase p c total head kept && sound_course c n kept)
-      ≡ (sound_phase p' c (total + length piece) head' kept' && sound_course c n kept')
-  pub same : (t : List ℕ) → comes_by p c total n head kept (piece ++ t) ≡ comes_by p' c (total + length piece) n head' kept' t
-
 module _ (c : Course) (total n : ℕ) (head kept piece : List ℕ) where
   -- a box that passes by, and does not end
-  passes_on : (a p : ℕ) → length piece < a → Goes (Skip a p) (Skip (a - length piece) p) c total n head kept piece head kept
+  pub passes_on : (a p : ℕ) → length piece < a → Goes (Skip a p) (Skip (a - length piece) p) c total n head kept piece head kept
   unfolding sound_phase comes_by
   passes_on a p h =
       record {
@@ -76,8 +70,8 @@ module _ (c : Course) (total n : ℕ) (head kept piece : List ℕ) where
       }
     where
       on : (t : List ℕ)
-          → when (ltb (length (piece ++ t)) a) (Refused 4 0 p) (rest (kept_moof c kept) c (total + a) n (drop a (piece ++ t)))
-          ≡ when (ltb (length t) (a - length piece)) (Refused 4 0 p)
+          → when (ltb (length (piece ++ t)) a) (breaks 4 0 p) (rest (kept_moof c kept) c (total + a) n (drop a (piece ++ t)))
+          ≡ when (ltb (length t) (a - length piece)) (breaks 4 0 p)
           (rest (kept_moof c kept) c (total + length piece + (a - length piece)) n (drop (a - length piece) t))
       on t =
           let whole : a ≡ length piece + (a - length piece) = omega arith in
@@ -88,7 +82,7 @@ module _ (c : Course) (total n : ℕ) (head kept piece : List ℕ) where
           rw (length-append piece t, ltb_less (length t) a (length piece) h, cut, place)
 
   -- a header of which fewer than 8 bytes are there
-  heads_on : (a : ℕ) → length head ≡ 16 → a + length piece < 8
+  pub heads_on : (a : ℕ) → length head ≡ 16 → a + length piece < 8
       → Goes (Head a) (Head (a + length piece)) c total n head kept piece (paste head a piece (length piece)) kept
   unfolding sound_phase open_header comes_by
   heads_on a e h =
@@ -136,15 +130,15 @@ module _ (c : Course) (total n : ℕ) (head kept piece : List ℕ) where
         → (t && true && when (halved d) false true && sound_course d n kept)
         ≡ (t && true && when (halved d) false true && sound_course d n (paste kept a piece (length piece)))
     unfolding halved sound_course
-    course_same (On Start) t = refl
-    course_same (On (Typed f)) t = refl
-    course_same (On (Headed j)) t = refl
-    course_same (On (Halved j m)) true = refl
-    course_same (On (Halved j m)) false = refl
-    course_same (On (Paired j)) t = refl
-    course_same (Broken p) t = refl
+    course_same (Ok Start) t = refl
+    course_same (Ok (Typed f)) t = refl
+    course_same (Ok (Headed j)) t = refl
+    course_same (Ok (Halved j m)) true = refl
+    course_same (Ok (Halved j m)) false = refl
+    course_same (Ok (Paired j)) t = refl
+    course_same (Err p) t = refl
 
-    keeps_on : Goes (Keep a) (Keep (a + length piece)) c total n head kept piece head (paste kept a piece (length piece))
+    pub keeps_on : Goes (Keep a) (Keep (a + length piece)) c total n head kept piece head (paste kept a piece (length piece))
     unfolding sound_phase comes_by
     keeps_on =
         record {
@@ -185,50 +179,37 @@ after_move : (ns : List ℕ) (a total sum : ℕ) (p : Phase) → phase_of (get_o
 unfolding moved_on
 after_move ns a total sum p e s = rw (e, s)
 
--- numbers that are moved on
-module _ (ns ns' piece : List ℕ) (a total : ℕ) (moved : state_of ns' ≡ moved_on ns a total) where
-  -- by the phases before and after
-  feeds_on : (head kept head' kept' : List ℕ) (p p' : Phase) → phase_of (get_or ns 0 0) (get_or ns 1 0) (get_or ns 2 0) ≡ p
-      → phase_of (get_or ns 0 0) a (get_or ns 2 0) ≡ p' → total ≡ get_or ns 3 0 + length piece
-      → Goes p p' (state_of ns).course (get_or ns 3 0) (state_of ns).boxes head kept piece head' kept' → FeedsFrom ns head kept piece ns' head' kept'
-  unfolding resume
-  feeds_on head kept head' kept' p p' e e' s g t =
-      let after : state_of ns' ≡ state_at p' (state_of ns).course (get_or ns 3 0 + length piece) (state_of ns).boxes =
-      moved ∙ after_move ns a total (get_or ns 3 0 + length piece) p' e' s
-      in
-      by (state_of ns) (state_of ns') (before_move ns p e) after
-    where
-      by : (st st' : Progress) → st ≡ state_at p (state_of ns).course (get_or ns 3 0) (state_of ns).boxes
-          → st' ≡ state_at p' (state_of ns).course (get_or ns 3 0 + length piece) (state_of ns).boxes
-          → when (sound st head kept) (answer_of (comes_to st head kept (piece ++ t))) unstarted
-          ≡ when (sound st' head' kept') (answer_of (comes_to st' head' kept' t)) unstarted
-      by st st' u u' =
-          rw (u, u') (goes_on p p' (state_of ns).course (get_or ns 3 0) (state_of ns).boxes head kept piece head' kept' g t)
+-- a phase by its numbers with the first value anew
+first_of : (t x a b : ℕ) → phase_of t a b ≡ first_anew (phase_of t x b) a
+unfolding phase_of
+first_of t x a b = by (eqb t 1) (eqb t 2) (eqb t 3) (eqb t 4)
+  where
+    by : (h k s o : Bool) →
+        when h (Head a) (when k (Keep a) (when s (Skip a b) (when o (Stopped (record { number = a; place = b })) Unstarted)))
+        ≡ first_anew (when h (Head x) (when k (Keep x) (when s (Skip x b) (when o (Stopped (record { number = x; place = b })) Unstarted)))) a
+    by true k s o = refl
+    by false true s o = refl
+    by false false true o = refl
+    by false false false true = refl
+    by false false false false = refl
 
-  -- by the phase's number: a box passes by
-  pub passed_feeds : (head kept : List ℕ) → Amid 3 ns piece total → length piece < get_or ns 1 0 → a ≡ get_or ns 1 0 - length piece
-      → FeedsFrom ns head kept piece ns' head kept
-  unfolding phase_of
-  passed_feeds head kept m h e =
-      feeds_on head kept head kept (Skip (get_or ns 1 0) (get_or ns 2 0)) (Skip (get_or ns 1 0 - length piece) (get_or ns 2 0))
-      (rw m.phase) (rw (m.phase, e)) m.sum
-      (passes_on (state_of ns).course (get_or ns 3 0) (state_of ns).boxes head kept piece (get_or ns 1 0) (get_or ns 2 0) h)
-
-  -- a header's first bytes
-  pub headed_feeds : (head kept head' : List ℕ) → Amid 1 ns piece total → length head ≡ 16 → get_or ns 1 0 + length piece < 8
-      → a ≡ get_or ns 1 0 + length piece → head' ≡ paste head (get_or ns 1 0) piece (length piece) → FeedsFrom ns head kept piece ns' head' kept
-  unfolding phase_of
-  headed_feeds head kept head' m l h e w =
-      feeds_on head kept head' kept (Head (get_or ns 1 0)) (Head (get_or ns 1 0 + length piece))
-      (rw m.phase) (rw (m.phase, e)) m.sum
-      (rw w (heads_on (state_of ns).course (get_or ns 3 0) (state_of ns).boxes head kept piece (get_or ns 1 0) l h))
-
-  -- a gathered box
-  pub kept_feeds : (head kept kept' : List ℕ) → Amid 2 ns piece total → length kept ≡ gather_limit → open_box kept (get_or ns 1 0) ≡ true
-      → length piece < size_of kept 0 - get_or ns 1 0 → a ≡ get_or ns 1 0 + length piece
-      → kept' ≡ paste kept (get_or ns 1 0) piece (length piece) → FeedsFrom ns head kept piece ns' head kept'
-  unfolding phase_of
-  kept_feeds head kept kept' m l o h e w =
-      feeds_on head kept head kept' (Keep (get_or ns 1 0)) (Keep (get_or ns 1 0 + length piece))
-      (rw m.phase) (rw (m.phase, e)) m.sum
-      (rw w (keeps_on (state_of ns).course (get_or ns 3 0) (state_of ns).boxes head kept piece (get_or ns 1 0) l o h))
+-- numbers that are moved on, where their phase goes on with its first value anew
+pub goes_feeds : (ns ns' head kept piece head' kept' : List ℕ) (a total : ℕ) → state_of ns' ≡ moved_on ns a total → total ≡ get_or ns 3 0 + length piece
+    → ((c : Course) (total n : ℕ) →
+    Goes (phase_of (get_or ns 0 0) (get_or ns 1 0) (get_or ns 2 0)) (first_anew (phase_of (get_or ns 0 0) (get_or ns 1 0) (get_or ns 2 0)) a) c total n head kept piece head' kept')
+    → FeedsFrom ns head kept piece ns' head' kept'
+unfolding resume
+goes_feeds ns ns' head kept piece head' kept' a total moved s g t =
+    let p = phase_of (get_or ns 0 0) (get_or ns 1 0) (get_or ns 2 0) in
+    let after : state_of ns' ≡ state_at (first_anew p a) (state_of ns).course (get_or ns 3 0 + length piece) (state_of ns).boxes =
+    moved ∙ after_move ns a total (get_or ns 3 0 + length piece) (first_anew p a) (first_of (get_or ns 0 0) (get_or ns 1 0) a (get_or ns 2 0)) s
+    in
+    by p (state_of ns) (state_of ns') (before_move ns p refl) after (g (state_of ns).course (get_or ns 3 0) (state_of ns).boxes)
+  where
+    by : (p : Phase) (st st' : Progress) → st ≡ state_at p (state_of ns).course (get_or ns 3 0) (state_of ns).boxes
+        → st' ≡ state_at (first_anew p a) (state_of ns).course (get_or ns 3 0 + length piece) (state_of ns).boxes
+        → Goes p (first_anew p a) (state_of ns).course (get_or ns 3 0) (state_of ns).boxes head kept piece head' kept'
+        → when (sound st head kept) (answer_of (comes_to st head kept (piece ++ t))) unstarted
+        ≡ when (sound st' head' kept') (answer_of (comes_to st' head' kept' t)) unstarted
+    by p st st' u u' g =
+        rw (u, u') (goes_on p (first_anew p a) (state_of ns).course (get_or ns 3 0) (state_of ns).boxes head kept piece head' kept' g t)

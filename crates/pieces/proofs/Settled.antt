@@ -14,10 +14,8 @@ use Rattle.rules.specs.Framing.{on_framing, rule5, framing}
 use Rattle.rules.specs.Course.{and_box}
 use Rattle.rules.specs.Pieces.{large}
 use Rattle.rules.specs.declared.Path.TheVariants.{Top}
-use Rattle.rules.specs.declared.Course.{Course}
-use Rattle.rules.specs.declared.Framing.{Framing}
-use Rattle.rules.specs.declared.Framing.TheVariants.{Framed, Misframed}
-use Rattle.rules.specs.declared.Judged.TheVariants.{Refused}
+use Rattle.rules.specs.Rules.{Course, Framing, breaks, unframed}
+use Rattle.std.specs.Prelude.{Ok, Err}
 use Rattle.rules.specs.declared.Look.{Look}
 use Rattle.rules.specs.declared.Look.TheVariants.{Nothing, Short, Small, Beyond, Good}
 use Rattle.rules.proofs.Forest.{look_found, look_nothing, nothing_left, never, forest_box, forest_nothing, forest_short, forest_small, forest_beyond, boxes_box}
@@ -28,31 +26,31 @@ use Rattle.pieces.proofs.Unfolding.{after_box, rest_by_lem}
 use Rattle.pieces.proofs.Courses.{waits_itself}
 
 -- boxes are counted up
-pub counts_up : (f : Forest) (base n m : ℕ) → framing f base n ≡ Framed m → n ≤ m
+pub counts_up : (f : Forest) (base n m : ℕ) → framing f base n ≡ Ok m → n ≤ m
 unfolding framing rule5
 counts_up end base n m e = let q : n ≡ m = cc in omega arith
 counts_up (bad k p) base n m e = by (leb box_limit n) e
   where
-    by : (t : Bool) → when t (Misframed 5 (base + p)) (Misframed k (base + p)) ≡ Framed m → n ≤ m
+    by : (t : Bool) → when t (unframed 5 (base + p)) (unframed k (base + p)) ≡ Ok m → n ≤ m
     by true e = never (cc)
     by false e = never (cc)
 counts_up (node x i r) base n m e =
     by (leb box_limit n) (framing i (base + x.at + x.inner) (n + 1)) refl (counts_up i (base + x.at + x.inner) (n + 1)) (counts_up r base) e
   where
     by : (t : Bool) (y : Framing) → framing i (base + x.at + x.inner) (n + 1) ≡ y
-        → ((j : ℕ) → framing i (base + x.at + x.inner) (n + 1) ≡ Framed j → n + 1 ≤ j)
-        → ((j q : ℕ) → framing r base j ≡ Framed q → j ≤ q)
-        → when t (Misframed 5 (base + x.at)) (on_framing y (λ m. framing r base m) (λ k p. Misframed k p)) ≡ Framed m → n ≤ m
+        → ((j : ℕ) → framing i (base + x.at + x.inner) (n + 1) ≡ Ok j → n + 1 ≤ j)
+        → ((j q : ℕ) → framing r base j ≡ Ok q → j ≤ q)
+        → when t (unframed 5 (base + x.at)) (on_framing y (λ m. framing r base m) (λ k p. unframed k p)) ≡ Ok m → n ≤ m
     by true y q f g e = never (cc)
-    by false (Framed j) q f g e = omega (arith, f j q, g j m e)
-    by false (Misframed k p) q f g e = never (cc)
+    by false (Ok j) q f g e = omega (arith, f j q, g j m e)
+    by false (Err b) q f g e = never (cc)
 
 -- a run that is framed with no box in it has no byte
-pub nothing_there : (own : List ℕ) (at n : ℕ) → framing (forest Top own 0) at n ≡ Framed n → boxes own 0 ≡ [] → length own ≤ 0
+pub nothing_there : (own : List ℕ) (at n : ℕ) → framing (forest Top own 0) at n ≡ Ok n → boxes own 0 ≡ [] → length own ≤ 0
 unfolding framing rule5
 nothing_there own at n e f = by (look own 0) refl
   where
-    broken : (t : Bool) (k : ℕ) → when t (Misframed 5 (at + 0)) (Misframed k (at + 0)) ≡ Framed n → length own ≤ 0
+    broken : (t : Bool) (k : ℕ) → when t (unframed 5 (at + 0)) (unframed k (at + 0)) ≡ Ok n → length own ≤ 0
     broken true k e = never (cc)
     broken false k e = never (cc)
 
@@ -89,27 +87,27 @@ module _ (kept u : List ℕ) (c : Course) (at n h z k : ℕ) (l : z ≤ length k
       rw (forest_box Top own 0 h z k e, forest_nothing Top own (0 + z) (look_nothing own (0 + z) (omega (arith, own_length))), g, inner_same)
       (by (at + 0) (omega arith))
     where
-      alone : (r : Framing) → on_framing r (λ m. Framed m) (λ i p. Misframed i p) ≡ r
-      alone (Framed m) = refl
-      alone (Misframed i p) = refl
+      alone : (r : Framing) → on_framing r (λ m. Ok m) (λ i p. unframed i p) ≡ r
+      alone (Ok m) = refl
+      alone (Err e) = refl
 
       by : (q : ℕ) → q ≡ at
           → rule5 n q
-          (on_framing (framing (within (λ q t. forest q t 0) (inside Top k) (part own (0 + h) (z - h))) (q + h) (n + 1)) (λ m. Framed m) (λ i p. Misframed i p))
+          (on_framing (framing (within (λ q t. forest q t 0) (inside Top k) (part own (0 + h) (z - h))) (q + h) (n + 1)) (λ m. Ok m) (λ i p. unframed i p))
           ≡ rule5 n at (framing (within (λ q t. forest q t 0) (inside Top k) (part own (0 + h) (z - h))) (at + h) (n + 1))
       by q f = rw f (ap (rule5 n at) (alone _))
 
   -- it is refused
-  pub settled_bad : large k z ≡ false → {i p : ℕ} → framing (forest Top own 0) at n ≡ Misframed i p → rest [] c at n (own ++ u) ≡ Refused i 0 p
+  pub settled_bad : large k z ≡ false → {i p : ℕ} → framing (forest Top own 0) at n ≡ unframed i p → rest [] c at n (own ++ u) ≡ breaks i 0 p
   settled_bad g f =
       rest_by_lem [] c at n (own ++ u) (Good h z k) stood
-      ∙ ap (λ (r : Framing). on_framing r (after_box rest [] c at (own ++ u) h z k) (λ i p. Refused i 0 p)) (sym (framing_own g) ∙ f)
+      ∙ ap (λ (r : Framing). on_framing r (after_box rest [] c at (own ++ u) h z k) (λ i p. breaks i 0 p)) (sym (framing_own g) ∙ f)
 
   -- it is taken into the course
-  pub settled_good : large k z ≡ false → halved c ≡ false → {m : ℕ} → framing (forest Top own 0) at n ≡ Framed m
+  pub settled_good : large k z ≡ false → halved c ≡ false → {m : ℕ} → framing (forest Top own 0) at n ≡ Ok m
       → rest [] c at n (own ++ u) ≡ rest (kept_moof (and_box own [] c x) kept) (and_box own [] c x) (at + z) m u
   settled_good g y {m} f =
       rest_by_lem [] c at n (own ++ u) (Good h z k) stood
-      ∙ ap (λ (r : Framing). on_framing r (after_box rest [] c at (own ++ u) h z k) (λ i p. Refused i 0 p)) (sym (framing_own g) ∙ f)
+      ∙ ap (λ (r : Framing). on_framing r (after_box rest [] c at (own ++ u) h z k) (λ i p. breaks i 0 p)) (sym (framing_own g) ∙ f)
       ∙ ap₂ (λ (o v : List ℕ). rest (waits_after (and_box o [] c x) o) (and_box o [] c x) (at + z) m v) (take_at own u z own_length) (drop_at own u z own_length)
       ∙ ap (λ (w : List ℕ). rest w (and_box own [] c x) (at + z) m u) (waits_itself own [] c x kept y refl)

@@ -9,10 +9,8 @@ use borrow.Author.Tests.{ltb-true, leb-true, eqb-true, not-true, lt-ltb, le-leb,
 use Rattle.numbers.specs.Numbers.{when, be4}
 use Rattle.rules.specs.Limits.{byte_limit, gather_limit}
 use Rattle.rules.specs.Boxes.{head_of, size_of}
-use Rattle.rules.specs.declared.Course.{Course}
-use Rattle.rules.specs.declared.Course.TheVariants.{On, Broken}
-use Rattle.rules.specs.declared.Judged.{Judged}
-use Rattle.rules.specs.declared.Judged.TheVariants.{Accepted, Refused}
+use Rattle.rules.specs.Rules.{Course, Judged}
+use Rattle.std.specs.Prelude.{Ok, Err}
 use Rattle.rules.specs.declared.Reached.TheVariants.{Start, Typed, Headed, Halved, Paired}
 use Rattle.rules.specs.declared.Spot.{Spot}
 use Rattle.rules.proofs.Laws.{and_first, and_second, and_both}
@@ -23,8 +21,8 @@ use Rattle.pieces.specs.declared.state.Progress.{Progress}
 
 -- fragments are no more than the boxes so far
 abbrev pub Few : Judged → ℕ → Type 0
-Few (Accepted f) n = f.fragments ≤ n
-Few (Refused k t p) n = Unit {0}
+Few (Ok f) n = f.fragments ≤ n
+Few (Err e) n = Unit {0}
 
 -- the buffer begins with the whole box of a spot
 pub record FrontBox (kept : List ℕ) (m : Spot) : Type 0 where
@@ -41,12 +39,12 @@ pub record WaitsInFront (j : Judged) (m : Spot) (n : ℕ) (kept : List ℕ) : Ty
 
 -- what a sound course says
 abbrev pub SoundCourse : Course → ℕ → List ℕ → Type 0
-SoundCourse (On Start) n kept = Unit {0}
-SoundCourse (On (Typed f)) n kept = Unit {0}
-SoundCourse (On (Headed j)) n kept = Few j n
-SoundCourse (On (Halved j m)) n kept = WaitsInFront j m n kept
-SoundCourse (On (Paired j)) n kept = Few j n
-SoundCourse (Broken p) n kept = Unit {0}
+SoundCourse (Ok Start) n kept = Unit {0}
+SoundCourse (Ok (Typed f)) n kept = Unit {0}
+SoundCourse (Ok (Headed j)) n kept = Few j n
+SoundCourse (Ok (Halved j m)) n kept = WaitsInFront j m n kept
+SoundCourse (Ok (Paired j)) n kept = Few j n
+SoundCourse (Err p) n kept = Unit {0}
 
 -- so many bytes are not yet a whole header
 abbrev pub PartLength : List ℕ → ℕ → Type 0
@@ -71,7 +69,7 @@ SoundPhase Unstarted c total head kept = ⊥
 SoundPhase (Head n) c total head kept = PartHeader n total head
 SoundPhase (Keep n) c total head kept = PartBox n total c kept
 SoundPhase (Skip l p) c total head kept = 0 < l
-SoundPhase (Stopped k p) c total head kept = Unit {0}
+SoundPhase (Stopped e) c total head kept = Unit {0}
 
 -- a case that turns a test round is its negation
 pub unless : (b : Bool) → not b ≡ when b false true
@@ -90,13 +88,13 @@ either false b e = inr e
 -- the test of the fragments says so, and is true where it is so
 few_says : (j : Judged) (n : ℕ) → few_fragments j n ≡ true → Few j n
 unfolding few_fragments
-few_says (Accepted f) n e = leb-true _ _ e
-few_says (Refused k t p) n e = tt
+few_says (Ok f) n e = leb-true _ _ e
+few_says (Err q) n e = tt
 
 says_few : (j : Judged) (n : ℕ) → Few j n → few_fragments j n ≡ true
 unfolding few_fragments
-says_few (Accepted f) n h = le-leb _ _ h
-says_few (Refused k t p) n h = refl
+says_few (Ok f) n h = le-leb _ _ h
+says_few (Err e) n h = refl
 
 -- the test of the box that waits, both ways
 box_says : (kept : List ℕ) (m : Spot) → kept_box kept m ≡ true → FrontBox kept m
@@ -118,23 +116,23 @@ says_box kept m h = rw (eq-eqb _ _ h.head, eq-eqb _ _ h.size, le-leb _ _ h.holds
 -- the test of a course, both ways
 pub course_says : (c : Course) (n : ℕ) (kept : List ℕ) → sound_course c n kept ≡ true → SoundCourse c n kept
 unfolding sound_course
-course_says (On Start) n kept e = tt
-course_says (On (Typed f)) n kept e = tt
-course_says (On (Headed j)) n kept e = few_says j n e
-course_says (On (Halved j m)) n kept e =
+course_says (Ok Start) n kept e = tt
+course_says (Ok (Typed f)) n kept e = tt
+course_says (Ok (Headed j)) n kept e = few_says j n e
+course_says (Ok (Halved j m)) n kept e =
     let t = all_three _ _ _ e in
     record { few = few_says j n t.0; near = leb-true _ _ t.1; box = box_says kept m t.2 }
-course_says (On (Paired j)) n kept e = few_says j n e
-course_says (Broken p) n kept e = tt
+course_says (Ok (Paired j)) n kept e = few_says j n e
+course_says (Err p) n kept e = tt
 
 pub says_course : (c : Course) (n : ℕ) (kept : List ℕ) → SoundCourse c n kept → sound_course c n kept ≡ true
 unfolding sound_course
-says_course (On Start) n kept h = refl
-says_course (On (Typed f)) n kept h = refl
-says_course (On (Headed j)) n kept h = says_few j n h
-says_course (On (Halved j m)) n kept h = rw (says_few j n h.few, le-leb _ _ h.near, says_box kept m h.box)
-says_course (On (Paired j)) n kept h = says_few j n h
-says_course (Broken p) n kept h = refl
+says_course (Ok Start) n kept h = refl
+says_course (Ok (Typed f)) n kept h = refl
+says_course (Ok (Headed j)) n kept h = says_few j n h
+says_course (Ok (Halved j m)) n kept h = rw (says_few j n h.few, le-leb _ _ h.near, says_box kept m h.box)
+says_course (Ok (Paired j)) n kept h = says_few j n h
+says_course (Err p) n kept h = refl
 
 -- the test of a header, both ways
 short_says : (head : List ℕ) (n : ℕ) → open_header head n ≡ true → PartLength head n
@@ -168,7 +166,7 @@ phase_says (Keep n) c total head kept e =
       alone = not-true (halved c) (unless (halved c) ∙ t.2);
     }
 phase_says (Skip l p) c total head kept e = ltb-true _ _ e
-phase_says (Stopped k p) c total head kept e = tt
+phase_says (Stopped q) c total head kept e = tt
 
 pub says_phase : (p : Phase) (c : Course) (total : ℕ) (head kept : List ℕ) → SoundPhase p c total head kept
     → sound_phase p c total head kept ≡ true
@@ -178,7 +176,7 @@ says_phase (Head n) c total head kept h = rw (le-leb _ _ h.within, says_short he
 says_phase (Keep n) c total head kept h =
     rw (le-leb _ _ h.within, le-leb _ _ h.head, lt-ltb _ _ h.short, le-leb _ _ h.small, h.alone)
 says_phase (Skip l p) c total head kept h = lt-ltb _ _ h
-says_phase (Stopped k p) c total head kept h = refl
+says_phase (Stopped e) c total head kept h = refl
 
 -- a sound state's phase and course say what they say
 pub sound_says : (st : Progress) (head kept : List ℕ) → sound st head kept ≡ true

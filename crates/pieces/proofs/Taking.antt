@@ -2,18 +2,18 @@
 use mathlib.Core.Path.{◌≡◌, refl, sym, ap, ap₂, ◌∙◌}
 use mathlib.Core.Bool.{Bool, true, false}
 use mathlib.Core.List.{List, ◌++◌, append_assoc}
-use Prim.Native.Nat.{ℕ, ◌+◌, ◌-◌, ◌≤◌, ◌<◌}
+use Prim.Native.Nat.{ℕ, ◌+◌, ◌-◌, ◌≤◌, ◌<◌, min}
 use native.Mathlib.Omega.{arith}
 use lib.ListN.{length, take, drop, length-append, take-append-drop}
-use lib.Seq.{paste, take-paste, drop-length, drop-append-le, drop-append-add}
+use lib.Seq.{paste, take-length, length-take-le, take-paste, drop-length, drop-append-le, drop-append-add}
 use lib.Dec.{ltb}
 use borrow.Author.Tests.{lt-ltb, le-ltb, le-leb, ltb-true, ltb-false}
 use Rattle.numbers.specs.Numbers.{when}
-use Rattle.rules.specs.declared.Course.{Course}
-use Rattle.rules.specs.declared.Judged.TheVariants.{Refused}
+use Rattle.rules.specs.Rules.{Course, breaks}
 use Rattle.pieces.specs.Rest.{rest}
+use Rattle.rules.specs.declared.Misframed.{Misframed}
 use Rattle.pieces.specs.State.{sound_phase, sound_course, sound, kept_moof, comes_by, open_header}
-use Rattle.pieces.specs.Steps.{Follows, TakesSome}
+use Rattle.pieces.specs.Steps.{passing_of, Follows, TakesSome}
 use Rattle.pieces.specs.declared.state.Phase.{Phase}
 use Rattle.pieces.specs.declared.state.Phase.TheVariants.{Head, Skip, Stopped}
 use Rattle.pieces.specs.declared.state.Progress.{Progress}
@@ -45,9 +45,9 @@ same_test a b c d f g = by (ltb a b) refl
 -- bytes that follow a state, some of which are taken
 module _ {c : Course} {total n : ℕ} {head kept more : List ℕ} where
   -- all of them are counted alone
-  pub counted_alone : {k p : ℕ} → Follows (Stopped k p) c total n head kept more
-      → TakesSome (Stopped k p) c total n head kept more
-      (record { state = state_by (Stopped k p) c (total + length more) n; used = length more }) head kept
+  pub counted_alone : {e : Misframed} → Follows (Stopped e) c total n head kept more
+      → TakesSome (Stopped e) c total n head kept more
+      (record { state = state_by (Stopped e) c (total + length more) n; used = length more }) head kept
   unfolding comes_by sound_phase
   counted_alone f =
       record {
@@ -61,7 +61,7 @@ module _ {c : Course} {total n : ℕ} {head kept more : List ℕ} where
       }
 
   -- all of them pass by, and more are left
-  pub passed_some : {l p : ℕ} → Follows (Skip l p) c total n head kept more → length more < l
+  passed_some : {l p : ℕ} → Follows (Skip l p) c total n head kept more → length more < l
       → TakesSome (Skip l p) c total n head kept more
       (record { state = state_by (Skip (l - length more) p) c (total + length more) n; used = length more }) head kept
   unfolding comes_by sound_phase
@@ -80,8 +80,8 @@ module _ {c : Course} {total n : ℕ} {head kept more : List ℕ} where
       w = kept_moof c kept
 
       same : (t : List ℕ)
-          → when (ltb (length (more ++ t)) l) (Refused 4 0 p) (rest w c (total + l) n (drop l (more ++ t)))
-          ≡ when (ltb (length (drop (length more) more ++ t)) (l - length more)) (Refused 4 0 p)
+          → when (ltb (length (more ++ t)) l) (breaks 4 0 p) (rest w c (total + l) n (drop l (more ++ t)))
+          ≡ when (ltb (length (drop (length more) more ++ t)) (l - length more)) (breaks 4 0 p)
           (rest w c (total + length more + (l - length more)) n (drop (l - length more) (drop (length more) more ++ t)))
       same t =
           let left : l ≡ length more + (l - length more) = omega arith in
@@ -93,7 +93,7 @@ module _ {c : Course} {total n : ℕ} {head kept more : List ℕ} where
           rw (drop-length more, test, rest_of, sum)
 
   -- the last of the box pass by
-  pub passed_last : {l p : ℕ} → Follows (Skip l p) c total n head kept more → l ≤ length more
+  passed_last : {l p : ℕ} → Follows (Skip l p) c total n head kept more → l ≤ length more
       → TakesSome (Skip l p) c total n head kept more (record { state = state_by (Head 0) c (total + l) n; used = l }) head kept
   unfolding comes_by
   passed_last {l} {p} f h =
@@ -111,11 +111,33 @@ module _ {c : Course} {total n : ℕ} {head kept more : List ℕ} where
       w = kept_moof c kept
 
       same : (t : List ℕ)
-          → when (ltb (length (more ++ t)) l) (Refused 4 0 p) (rest w c (total + l) n (drop l (more ++ t)))
+          → when (ltb (length (more ++ t)) l) (breaks 4 0 p) (rest w c (total + l) n (drop l (more ++ t)))
           ≡ rest w c (total + l - 0) n (drop l more ++ t)
       same t =
           let sum : total + l - 0 ≡ total + l = omega arith in
           rw (le-ltb (length (more ++ t)) l (omega (arith, length-append more t)), drop-append-le l more t, sum)
+
+  -- as many pass by as are there and are left
+  pub passed : {l p used : ℕ} → Follows (Skip l p) c total n head kept more → used ≡ min (length more) l
+      → TakesSome (Skip l p) c total n head kept more (record { state = state_by (passing_of (l - used) p) c (total + used) n; used = used }) head kept
+  passed {l} {p} {used} f u = by (ltb 0 (l - used)) refl
+    where
+      by : (t : Bool) → ltb 0 (l - used) ≡ t
+          → TakesSome (Skip l p) c total n head kept more
+          (record { state = state_by (when t (Skip (l - used) p) (Head 0)) c (total + used) n; used = used }) head kept
+      by true e =
+          let all : used ≡ length more = omega (arith, u, ltb-true 0 (l - used) e) in
+          rw all (passed_some f (omega (arith, u, ltb-true 0 (l - used) e)))
+      by false e =
+          let all : used ≡ l = omega (arith, u, ltb-false 0 (l - used) e) in
+          rw all (passed_last f (omega (arith, u, ltb-false 0 (l - used) e)))
+
+-- the first n bytes of some, copied to a place of a buffer
+pub copied : (to : List ℕ) (at : ℕ) (from : List ℕ) (n : ℕ) {r : List ℕ} → r ≡ paste to at (take n from) (length (take n from)) → n ≤ length from → r ≡ paste to at from n
+copied to at from n e l =
+    e
+    ∙ ap (λ (a : List ℕ). take at to ++ a ++ drop (at + length (take n from)) to) (take-length (take n from))
+    ∙ ap (λ (i : ℕ). take at to ++ take n from ++ drop (at + i) to) (length-take-le n from l)
 
 -- bytes that are copied into a buffer behind those that it holds
 module _ (buf more : List ℕ) (i used : ℕ) (l : i ≤ length buf) (m : used ≤ length more) where

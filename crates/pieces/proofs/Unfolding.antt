@@ -7,11 +7,8 @@ use lib.ListN.{length, take, drop, length-drop}
 use Rattle.rules.specs.Boxes.{look, on_look}
 use Rattle.rules.specs.Framing.{on_framing}
 use Rattle.rules.specs.Course.{and_box, course_end}
-use Rattle.rules.specs.declared.Course.{Course}
-use Rattle.rules.specs.declared.Framing.{Framing}
-use Rattle.rules.specs.declared.Framing.TheVariants.{Framed, Misframed}
-use Rattle.rules.specs.declared.Judged.{Judged}
-use Rattle.rules.specs.declared.Judged.TheVariants.{Refused}
+use Rattle.rules.specs.Rules.{Course, Framing, Judged, breaks}
+use Rattle.std.specs.Prelude.{Ok, Err}
 use Rattle.rules.specs.declared.Look.{Look}
 use Rattle.rules.specs.declared.Look.TheVariants.{Nothing, Short, Small, Beyond, Good}
 use Rattle.rules.proofs.Forest.{FoundBox, look_found, look_nothing}
@@ -26,8 +23,8 @@ after_box g w c at b h z k m =
 -- what the rest comes to where l stands, from what the rest after a box comes to
 abbrev pub rest_by : (List ℕ → Course → ℕ → ℕ → List ℕ → Judged) → List ℕ → Course → ℕ → ℕ → List ℕ → Look → Judged
 rest_by g w c at n b l =
-    on_look l (course_end at c) (λ k. Refused (number_broken b n k) 0 at)
-    (λ h z k. on_framing (box_framing b at n h z k) (after_box g w c at b h z k) (λ i p. Refused i 0 p))
+    on_look l (course_end at c) (λ k. breaks (number_broken b n k) 0 at)
+    (λ h z k. on_framing (box_framing b at n h z k) (after_box g w c at b h z k) (λ i p. breaks i 0 p))
 
 -- what the rest comes to where l stands
 abbrev pub rest_step : List ℕ → Course → ℕ → ℕ → List ℕ → Look → Judged
@@ -35,8 +32,8 @@ rest_step = rest_by rest
 
 -- two ways on that agree, after a framing
 framed_same : (r : Framing) (a b : ℕ → Judged) (e : ℕ → ℕ → Judged) → ((m : ℕ) → a m ≡ b m) → on_framing r a e ≡ on_framing r b e
-framed_same (Framed n) a b e h = h n
-framed_same (Misframed k p) a b e h = refl
+framed_same (Ok n) a b e h = h n
+framed_same (Err q) a b e h = refl
 
 -- what is said of all shorter bytes decides what is said of the bytes
 by_same :
@@ -50,7 +47,7 @@ by_same g r w c at n b i Beyond e = refl
 by_same g r w c at n b i (Good h z k) e =
     let d : FoundBox b 0 h z k = look_found b 0 h z k e in
     let less : length (drop z b) < length b = omega (arith, length-drop z b) in
-    framed_same (box_framing b at n h z k) (after_box g w c at b h z k) (after_box r w c at b h z k) (λ i p. Refused i 0 p)
+    framed_same (box_framing b at n h z k) (after_box g w c at b h z k) (after_box r w c at b h z k) (λ i p. breaks i 0 p)
     (λ m. i _ _ (at + z) m (drop z b) less)
 
 -- where no byte is left

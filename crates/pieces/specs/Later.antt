@@ -1,5 +1,5 @@
 -- What comes later decides: a value is broken, and more bytes follow. Examples by computation.
-use Rattle.std.specs.Prelude.{ℕ, List, [], ◌∷◌, ◌++◌, map, ◌≡◌, refl}
+use Rattle.std.specs.Prelude.{ℕ, List, [], ◌∷◌, ◌++◌, map, ◌≡◌, refl, Ok}
 use Rattle.rules.specs.Kinds.{moov, moof, mdat}
 use Rattle.rules.specs.Bytes.{in4, in8, boxed, header, chunk}
 use Rattle.rules.specs.Boxes.{end, node}
@@ -8,10 +8,7 @@ use Rattle.rules.specs.Examples.{free}
 use Rattle.rules.specs.Computed.{computed}
 use Rattle.rules.specs.Pieces.{with29, ruling_in_pieces, refused_as, answer_for}
 use Rattle.rules.specs.declared.Answer.{Answer}
-use Rattle.rules.specs.declared.Framing.{Framing}
-use Rattle.rules.specs.declared.Framing.TheVariants.{Framed, Misframed}
-use Rattle.rules.specs.declared.Rule.{Rule}
-use Rattle.rules.specs.declared.Rule.TheVariants.{Breaks}
+use Rattle.rules.specs.Rules.{Framing, Rule, breaks, unframed}
 
 -- T with its second `tfdt` 180001: 768 bytes in which one value is wrong
 unfoldable pub late_t : List ℕ
@@ -40,13 +37,13 @@ later_wins = refl
 unfoldable pub edges : List (List ℕ × Rule)
 edges =
     -- inside a container there is no such limit: 4 there
-    (boxed moov (in4 32769 ++ in4 moof), Breaks 4 0 8)
+    (boxed moov (in4 32769 ++ in4 moof), breaks 4 0 8)
     -- the largest size: of `mdat` 4, of `moof` 29
-    ∷ (in4 1 ++ in4 mdat ++ in8 18446744073709551615, Breaks 4 0 0)
-    ∷ (in4 1 ++ in4 moof ++ in8 18446744073709551615, Breaks 29 0 0)
+    ∷ (in4 1 ++ in4 mdat ++ in8 18446744073709551615, breaks 4 0 0)
+    ∷ (in4 1 ++ in4 moof ++ in8 18446744073709551615, breaks 29 0 0)
     -- 6 is pending: a size below its header, 3; a box that ends beyond the track, 4
-    ∷ (boxed free [] ++ in4 7 ++ in4 free, Breaks 3 0 8)
-    ∷ (boxed free [] ++ in4 9 ++ in4 free, Breaks 4 0 8)
+    ∷ (boxed free [] ++ in4 7 ++ in4 free, breaks 3 0 8)
+    ∷ (boxed free [] ++ in4 9 ++ in4 free, breaks 4 0 8)
     ∷ []
 
 pub edge_examples : map (λ e. ruling_in_pieces e.0) edges ≡ map (λ e. e.1) edges
@@ -60,11 +57,11 @@ there_whole n k z = framing (with29 [] (node (record { at = 0; inner = 8; size =
 -- 32,768 bytes are allowed, and 32,769 of other types; 5 comes before 29
 unfoldable pub wholes : List (Framing × Framing)
 wholes =
-    (there_whole 0 moof 32768, Framed 1)
-    ∷ (there_whole 0 moof 32769, Misframed 29 0)
-    ∷ (there_whole 0 mdat 32769, Framed 1)
-    ∷ (there_whole 65535 moov 32769, Misframed 29 0)
-    ∷ (there_whole 65536 moov 32769, Misframed 5 0)
+    (there_whole 0 moof 32768, Ok 1)
+    ∷ (there_whole 0 moof 32769, unframed 29 0)
+    ∷ (there_whole 0 mdat 32769, Ok 1)
+    ∷ (there_whole 65535 moov 32769, unframed 29 0)
+    ∷ (there_whole 65536 moov 32769, unframed 5 0)
     ∷ []
 
 pub whole_examples : map (λ e. e.0) wholes ≡ map (λ e. e.1) wholes

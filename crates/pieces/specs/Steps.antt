@@ -1,48 +1,46 @@
 -- What the functions of one step ask and say, over the state as it is decoded.
-use Rattle.std.specs.Prelude.{ℕ, ◌+◌, ◌-◌, ◌≤◌, ◌<◌, true, false, List, [], ◌++◌, ◌≡◌, length, take, drop, ltb}
+use Rattle.std.specs.Prelude.{ℕ, ◌+◌, ◌-◌, ◌≤◌, ◌<◌, true, false, ◌&&◌, List, [], ◌++◌, ◌≡◌, length, take, drop, ltb, Option, None, Some, Ok, Err}
 use Rattle.numbers.specs.Numbers.{when}
 use Rattle.rules.specs.Limits.{byte_limit, box_limit, gather_limit}
 use Rattle.rules.specs.Boxes.{head_of, size_of, kind_of}
 use Rattle.rules.specs.Course.{and_box}
 use Rattle.rules.specs.Pieces.{gathered}
-use Rattle.rules.specs.declared.Course.{Course}
-use Rattle.rules.specs.declared.Course.TheVariants.{On, Broken}
-use Rattle.rules.specs.declared.Judged.{Judged}
-use Rattle.rules.specs.declared.Judged.TheVariants.{Refused}
+use Rattle.rules.specs.Rules.{Course, Judged, breaks}
 use Rattle.rules.specs.declared.Reached.TheVariants.{Start, Typed, Headed, Halved, Paired}
+use Rattle.rules.specs.declared.Misframed.{Misframed}
 use Rattle.rules.specs.declared.Spot.{Spot}
 use Rattle.track.specs.Course.{box_of}
 use Rattle.pieces.specs.Rest.{rest}
 use Rattle.pieces.specs.State.{sound, sound_phase, sound_course, halved, kept_moof, comes_by, comes_to}
 use Rattle.pieces.specs.declared.state.Phase.{Phase}
-use Rattle.pieces.specs.declared.state.Phase.TheVariants.{Head, Skip, Stopped}
+use Rattle.pieces.specs.declared.state.Phase.TheVariants.{Unstarted, Head, Keep, Skip, Stopped}
 use Rattle.pieces.specs.declared.state.Progress.{Progress}
 use Rattle.pieces.specs.declared.step.Moved.{Moved}
 
 -- the bytes of the `moof` that waits
 abbrev pub waits_in : Course → ℕ
-waits_in (On Start) = 0
-waits_in (On (Typed f)) = 0
-waits_in (On (Headed j)) = 0
-waits_in (On (Halved j m)) = m.size
-waits_in (On (Paired j)) = 0
-waits_in (Broken p) = 0
+waits_in (Ok Start) = 0
+waits_in (Ok (Typed f)) = 0
+waits_in (Ok (Headed j)) = 0
+waits_in (Ok (Halved j m)) = m.size
+waits_in (Ok (Paired j)) = 0
+waits_in (Err p) = 0
 
--- a framing refusal at a place
-abbrev pub stopped_at : ℕ → ℕ → ℕ → Progress
-stopped_at total k p = record { phase = Stopped k p; total = total; boxes = 0; course = Broken 0 }
+-- a framing refusal
+abbrev pub stopped_at : ℕ → Misframed → Progress
+stopped_at total e = record { phase = Stopped e; total = total; boxes = 0; course = Err 0 }
 
 -- the course where a box that is gathered begins at a place: if a `moof` waits, that breaks the order
 abbrev pub beginning_at : Course → ℕ → Course
-beginning_at c at = when (halved c) (Broken at) c
+beginning_at c at = when (halved c) (Err at) c
 
 -- where a header ends of which n bytes are there: 8, and then, where they say so, 16
 abbrev pub header_end : ℕ → ℕ
 header_end n = when (ltb n 8) 8 16
 
--- the phase behind the header of a box that passes by
-abbrev pub passing_of : Spot → Phase
-passing_of b = when (ltb b.head b.size) (Skip (b.size - b.head) b.at) (Head 0)
+-- the phase where so many bytes are left of a box that passes by, which stands at a place
+abbrev pub passing_of : ℕ → ℕ → Phase
+passing_of l p = when (ltb 0 l) (Skip l p) (Head 0)
 
 -- between two boxes, or in one: not over the byte limit, the buffer as long as it is, the course sound
 pub record ReadyFor (c : Course) (total n : ℕ) (kept : List ℕ) : Type 0 where
@@ -89,11 +87,12 @@ abbrev pub MeansHeaded : Course → ℕ → ℕ → ℕ → Progress → List �
 MeansHeaded c total n h r head kept kept' = Means (after_header c total n h head kept) total r head kept'
 
 -- it is that of a box to gather
-pub record Gathers (c : Course) (total n h size : ℕ) (head kept : List ℕ) : Type 0 where
-  pub whole : Whole c total n h head kept
+pub record Gathers (c : Course) (total n : ℕ) (b : Spot) (head kept : List ℕ) : Type 0 where
+  pub whole : Whole c total n b.head head kept
   pub few : n < box_limit
-  pub said : size ≡ size_of head 0
-  pub holds : h ≤ size
+  pub place : b.at ≡ total - b.head
+  pub said : b.size ≡ size_of head 0
+  pub holds : b.head ≤ b.size
   pub kind : gathered (kind_of head 0) ≡ true
 
 -- it is that of a box that passes by
@@ -110,7 +109,7 @@ pub record PassesBy (c : Course) (total n : ℕ) (b : Spot) (k : ℕ) (kept : Li
 abbrev pub after_passed : Course → ℕ → Spot → ℕ → List ℕ → List ℕ → Judged
 after_passed c n b k kept t =
     let d = and_box [] (kept_moof c kept) c (box_of b k) in
-    when (ltb (length t) (b.size - b.head)) (Refused 4 0 b.at) (rest (kept_moof d kept) d (b.at + b.size) (n + 1) (drop (b.size - b.head) t))
+    when (ltb (length t) (b.size - b.head)) (breaks 4 0 b.at) (rest (kept_moof d kept) d (b.at + b.size) (n + 1) (drop (b.size - b.head) t))
 
 -- bytes follow a sound state, some of them and not too many
 pub record Follows (p : Phase) (c : Course) (total n : ℕ) (head kept more : List ℕ) : Type 0 where
@@ -132,10 +131,6 @@ pub record TakesSome (p : Phase) (c : Course) (total n : ℕ) (head kept more : 
   pub same : (t : List ℕ) → comes_by p c total n head kept (more ++ t)
       ≡ comes_by r.state.phase r.state.course r.state.total r.state.boxes head' kept' (drop r.used more ++ t)
 
--- the same, the memory as it was
-abbrev pub TakesAside : Phase → Course → ℕ → ℕ → List ℕ → List ℕ → List ℕ → Moved → Type 0
-TakesAside p c total n head kept more r = TakesSome p c total n head kept more r head kept
-
 -- both of a state
 abbrev pub FollowsState : Progress → List ℕ → List ℕ → List ℕ → Type 0
 FollowsState st head kept more = Follows st.phase st.course st.total st.boxes head kept more
@@ -153,3 +148,22 @@ pub record Sound (st : Progress) (head kept : List ℕ) : Type 0 where
 pub record ComesSame (st : Progress) (head kept piece : List ℕ) (r : Progress) (head' kept' : List ℕ) : Type 0 where
   pub sound : Sound r head' kept'
   pub same : (t : List ℕ) → comes_to st head kept (piece ++ t) ≡ comes_to r head' kept' t
+
+-- a phase leads by a piece to another: both can have come from `start` or neither, and whatever follows comes to the same
+pub record Goes (p p' : Phase) (c : Course) (total n : ℕ) (head kept piece head' kept' : List ℕ) : Type 0 where
+  pub sound : (sound_phase p c total head kept && sound_course c n kept)
+      ≡ (sound_phase p' c (total + length piece) head' kept' && sound_course c n kept')
+  pub same : (t : List ℕ) → comes_by p c total n head kept (piece ++ t) ≡ comes_by p' c (total + length piece) n head' kept' t
+
+-- a phase with its first value anew
+abbrev pub first_anew : Phase → ℕ → Phase
+first_anew Unstarted a = Unstarted
+first_anew (Head i) a = Head a
+first_anew (Keep i) a = Keep a
+first_anew (Skip l p) a = Skip a p
+first_anew (Stopped e) a = Stopped (record { number = a; place = e.place })
+
+-- a phase goes on by a piece with its first value anew, or nothing changes
+abbrev pub GoesOn : Option ℕ → Phase → List ℕ → List ℕ → List ℕ → List ℕ → List ℕ → Type 0
+GoesOn (Some a) p head kept piece head' kept' = (c : Course) (total n : ℕ) → Goes p (first_anew p a) c total n head kept piece head' kept'
+GoesOn None p head kept piece head' kept' = (head' ≡ head) × (kept' ≡ kept)

@@ -1,11 +1,9 @@
 // The state between two pieces, as numbers in the memory that the caller lends.
-ghost use Rattle.std.specs.Prelude.{◌≡◌, ◌<◌, eqb};
-ghost use Rattle.pieces.specs.State.{phase_of, low32, start_from, end_from, facts_from, judged_from};
+ghost use Rattle.std.specs.Prelude.{◌≡◌};
+ghost use Rattle.pieces.specs.State.{phase_of, low32, tick_from, facts_from, judged_from};
 ghost use Rattle.pieces.specs.State.{spot_from, of_ftyp, course_by, state_of, moved_on};
 
-use rules::{
-    Course, Defaults, FirstTick, Ftyp, Header, Judged, Previous, Reached, Spot, TrackFacts,
-};
+use rules::{Course, Defaults, Header, Judged, Misframed, Reached, Refusal, Spot, TrackFacts};
 
 // The numbers of a state.
 pub const NUMBERS: usize = 24;
@@ -18,7 +16,7 @@ pub enum Phase {
     Head(usize),
     Keep(usize),
     Skip { left: usize, place: usize },
-    Stopped { number: u64, place: usize },
+    Stopped(Misframed),
 }
 
 // A state: the phase, the bytes so far, the boxes so far, and what they came to.
@@ -47,55 +45,31 @@ struct CourseParts {
 }
 
 // A phase by its number and its values.
-fn phase_of(tag: u64, a: u64, b: u64) -> Phase
+#[tactic(auto, unfolding(crate::specs::State::phase_of))]
+pub fn phase_of(tag: u64, a: u64, b: u64) -> Phase
     ensures { result ≡ phase_of tag a b }
 {
-    if tag == 1 {
-        return Phase::Head(a as usize);
-    }
-    if tag == 2 {
-        return Phase::Keep(a as usize);
-    }
-    if tag == 3 {
-        return Phase::Skip {
+    match tag {
+        1 => Phase::Head(a as usize),
+        2 => Phase::Keep(a as usize),
+        3 => Phase::Skip {
             left: a as usize,
             place: b as usize,
-        };
-    }
-    if tag == 4 {
-        return Phase::Stopped {
+        },
+        4 => Phase::Stopped(Misframed {
             number: a,
             place: b as usize,
-        };
+        }),
+        _ => Phase::Unstarted,
     }
-    Phase::Unstarted
 }
 
-// A first start by whether it is set and its value.
-fn start_from(tag: u64, a: u64) -> FirstTick
-    ensures { result ≡ start_from tag a }
+// A tick by whether it is set and its value.
+#[tactic(auto, unfolding(crate::specs::State::tick_from))]
+fn tick_from(tag: u64, a: u64) -> Option<u64>
+    ensures { result ≡ tick_from tag a }
 {
-    if tag == 1 {
-        return FirstTick::Tick(a);
-    }
-    FirstTick::Unset
-}
-
-// A previous end by whether it is set and its value.
-fn end_from(tag: u64, a: u64) -> Previous
-    ensures { result ≡ end_from tag a }
-{
-    if tag == 1 {
-        return Previous::End(a);
-    }
-    Previous::Unset
-}
-
-// Whether each chunk begins a fragment, by its number.
-fn plain_from(tag: u64) -> bool
-    ensures { result ≡ eqb tag 1 }
-{
-    tag == 1
+    if tag == 1 { Some(a) } else { None }
 }
 
 // A number's low 32 bits.
@@ -106,6 +80,7 @@ fn low32(n: u64) -> u32
 }
 
 // What is known of a track, by the numbers.
+#[tactic(auto, unfolding(crate::specs::State::facts_from))]
 fn facts_from(ns: &[u64; NUMBERS]) -> TrackFacts
     ensures { result ≡ facts_from ns.now }
 {
@@ -120,9 +95,9 @@ fn facts_from(ns: &[u64; NUMBERS]) -> TrackFacts
         handler: low32(ns[9]),
         defaults,
     };
-    let start = start_from(ns[16], ns[17]);
-    let end = end_from(ns[18], ns[19]);
-    let plain = plain_from(ns[23]);
+    let start = tick_from(ns[16], ns[17]);
+    let end = tick_from(ns[18], ns[19]);
+    let plain = ns[23] == 1;
     TrackFacts {
         header,
         mdhd: ns[13],
@@ -135,20 +110,18 @@ fn facts_from(ns: &[u64; NUMBERS]) -> TrackFacts
 }
 
 // What the rules so far come to, by the numbers.
+#[tactic(auto, unfolding(crate::specs::State::judged_from))]
 fn judged_from(ns: &[u64; NUMBERS]) -> Judged
     ensures { result ≡ judged_from ns.now }
 {
     if ns[6] == 1 {
-        return Judged::Accepted(facts_from(ns));
+        return Ok(facts_from(ns));
     }
-    Judged::Refused {
-        number: ns[7],
-        track: ns[8],
-        place: ns[9],
-    }
+    Err(Refusal::new(ns[7], ns[8], ns[9]))
 }
 
 // Where the `moof` that waits stood, by the numbers.
+#[tactic(auto, unfolding(crate::specs::State::spot_from))]
 fn spot_from(ns: &[u64; NUMBERS]) -> Spot
     ensures { result ≡ spot_from ns.now }
 {
@@ -160,34 +133,24 @@ fn spot_from(ns: &[u64; NUMBERS]) -> Spot
 }
 
 // What the boxes so far came to, by the number of its case, the rules so far, and the spot of the `moof` that waits.
+#[tactic(auto, unfolding(crate::specs::State::course_by))]
 fn course_by(tag: u64, j: Judged, m: Spot) -> Course
     ensures { result ≡ course_by tag j m }
 {
-    if tag == 0 {
-        return Course::On(Reached::Start);
+    match tag {
+        0 => Ok(Reached::Start),
+        1 => Ok(Reached::Typed(Some(false))),
+        2 => Ok(Reached::Typed(Some(true))),
+        3 => Ok(Reached::Typed(None)),
+        4 => Ok(Reached::Headed(j)),
+        5 => Ok(Reached::Halved(j, m)),
+        6 => Ok(Reached::Paired(j)),
+        _ => Err(m.at),
     }
-    if tag == 1 {
-        return Course::On(Reached::Typed(Ftyp::Branded(false)));
-    }
-    if tag == 2 {
-        return Course::On(Reached::Typed(Ftyp::Branded(true)));
-    }
-    if tag == 3 {
-        return Course::On(Reached::Typed(Ftyp::Wrong));
-    }
-    if tag == 4 {
-        return Course::On(Reached::Headed(j));
-    }
-    if tag == 5 {
-        return Course::On(Reached::Halved(j, m));
-    }
-    if tag == 6 {
-        return Course::On(Reached::Paired(j));
-    }
-    Course::Broken(m.at)
 }
 
 // The state that the numbers are.
+#[tactic(auto, unfolding(crate::specs::State::state_of))]
 pub fn decode(ns: &[u64; NUMBERS]) -> Progress
     ensures { result ≡ state_of ns.now }
 {
@@ -202,14 +165,8 @@ pub fn decode(ns: &[u64; NUMBERS]) -> Progress
     }
 }
 
-// A number of 32 bits as one of 64.
-fn wide(n: u32) -> u64
-    ensures { (result ≡ n) × (result < 4294967296) }
-{
-    n as u64
-}
-
 // A phase's number and values.
+#[tactic(auto, unfolding(crate::specs::State::phase_of))]
 fn of_phase(phase: Phase) -> Tagged
     ensures { phase_of result.tag result.a result.b ≡ phase }
 {
@@ -230,7 +187,7 @@ fn of_phase(phase: Phase) -> Tagged
             a: left as u64,
             b: place as u64,
         },
-        Phase::Stopped { number, place } => Tagged {
+        Phase::Stopped(Misframed { number, place }) => Tagged {
             tag: 4,
             a: number,
             b: place as u64,
@@ -238,98 +195,69 @@ fn of_phase(phase: Phase) -> Tagged
     }
 }
 
-// A first start's number and value.
-fn of_start(start: FirstTick) -> Tagged
-    ensures { start_from result.tag result.a ≡ start }
+// A tick's number and value.
+#[tactic(auto, unfolding(crate::specs::State::tick_from))]
+fn of_tick(tick: Option<u64>) -> Tagged
+    ensures { tick_from result.tag result.a ≡ tick }
 {
-    match start {
-        FirstTick::Unset => Tagged { tag: 0, a: 0, b: 0 },
-        FirstTick::Tick(t) => Tagged { tag: 1, a: t, b: 0 },
+    match tick {
+        None => Tagged { tag: 0, a: 0, b: 0 },
+        Some(t) => Tagged { tag: 1, a: t, b: 0 },
     }
-}
-
-// A previous end's number and value.
-fn of_end(end: Previous) -> Tagged
-    ensures { end_from result.tag result.a ≡ end }
-{
-    match end {
-        Previous::Unset => Tagged { tag: 0, a: 0, b: 0 },
-        Previous::End(e) => Tagged { tag: 1, a: e, b: 0 },
-    }
-}
-
-// The number of whether each chunk begins a fragment.
-fn of_plain(plain: bool) -> u64
-    ensures { eqb result 1 ≡ plain }
-{
-    if plain { 1 } else { 0 }
 }
 
 // The number of what `ftyp` tells, as a course's case.
-fn of_ftyp(f: Ftyp) -> u64
+fn of_ftyp(f: Option<bool>) -> u64
     ensures { result ≡ of_ftyp f }
 {
     match f {
-        Ftyp::Branded(b) => {
-            if b {
-                return 2;
-            }
-            1
-        }
-        Ftyp::Wrong => 3,
+        Some(false) => 1,
+        Some(true) => 2,
+        None => 3,
     }
 }
 
 // A course's case, with its rules so far and its spot.
+#[tactic(auto, unfolding(crate::specs::State::course_by))]
 fn of_course(course: Course) -> CourseParts
     ensures { course_by result.tag result.judged result.spot ≡ course }
 {
-    let none = Judged::Refused {
-        number: 0,
-        track: 0,
-        place: 0,
-    };
+    let none: Judged = Err(Refusal::new(0, 0, 0));
     let nowhere = Spot {
         at: 0,
         head: 0,
         size: 0,
     };
     match course {
-        Course::Broken(at) => CourseParts {
+        Err(at) => CourseParts {
             tag: 7,
             judged: none,
-            spot: Spot {
-                at,
-                head: 0,
-                size: 0,
-            },
+            spot: Spot { at, ..nowhere },
         },
-        Course::On(c) => match c {
-            Reached::Start => CourseParts {
-                tag: 0,
-                judged: none,
-                spot: nowhere,
-            },
-            Reached::Typed(f) => CourseParts {
-                tag: of_ftyp(f),
-                judged: none,
-                spot: nowhere,
-            },
-            Reached::Headed(j) => CourseParts {
-                tag: 4,
-                judged: j,
-                spot: nowhere,
-            },
-            Reached::Halved(j, m) => CourseParts {
-                tag: 5,
-                judged: j,
-                spot: m,
-            },
-            Reached::Paired(j) => CourseParts {
-                tag: 6,
-                judged: j,
-                spot: nowhere,
-            },
+        Ok(Reached::Start) => CourseParts {
+            tag: 0,
+            judged: none,
+            spot: nowhere,
+        },
+        Ok(Reached::Typed(f)) => CourseParts {
+            tag: of_ftyp(f),
+            judged: none,
+            spot: nowhere,
+        },
+        Ok(Reached::Headed(j)) => CourseParts {
+            tag: 4,
+            judged: j,
+            spot: nowhere,
+        },
+        Ok(Reached::Halved(j, m)) => CourseParts {
+            tag: 5,
+            judged: j,
+            spot: m,
+        },
+        Ok(Reached::Paired(j)) => CourseParts {
+            tag: 6,
+            judged: j,
+            spot: nowhere,
         },
     }
 }
@@ -338,18 +266,11 @@ fn of_course(course: Course) -> CourseParts
 pub fn encode(st: Progress) -> [u64; NUMBERS]
     ensures { state_of result ≡ st }
 {
-    let phase = st.phase;
-    let course = st.course;
-    let p = of_phase(phase);
-    let c = of_course(course);
+    let p = of_phase(st.phase);
+    let c = of_course(st.course);
     let m = c.spot;
-    let j = c.judged;
-    match j {
-        Judged::Refused {
-            number,
-            track,
-            place,
-        } => [
+    match c.judged {
+        Err(e) => [
             p.tag,
             p.a,
             p.b,
@@ -357,9 +278,9 @@ pub fn encode(st: Progress) -> [u64; NUMBERS]
             st.boxes as u64,
             c.tag,
             0,
-            number,
-            track,
-            place,
+            e.number,
+            e.track,
+            e.place,
             0,
             0,
             0,
@@ -375,13 +296,11 @@ pub fn encode(st: Progress) -> [u64; NUMBERS]
             m.size as u64,
             0,
         ],
-        Judged::Accepted(f) => {
+        Ok(f) => {
             let h = f.header;
             let d = h.defaults;
-            let first = f.start;
-            let last = f.end;
-            let start = of_start(first);
-            let end = of_end(last);
+            let start = of_tick(f.start);
+            let end = of_tick(f.end);
             [
                 p.tag,
                 p.a,
@@ -390,12 +309,12 @@ pub fn encode(st: Progress) -> [u64; NUMBERS]
                 st.boxes as u64,
                 c.tag,
                 1,
-                wide(h.timescale),
-                wide(h.id),
-                wide(h.handler),
-                wide(d.duration),
-                wide(d.size),
-                wide(d.flags),
+                u64::from(h.timescale),
+                u64::from(h.id),
+                u64::from(h.handler),
+                u64::from(d.duration),
+                u64::from(d.size),
+                u64::from(d.flags),
                 f.mdhd,
                 f.hdlr,
                 f.fragments,
@@ -406,18 +325,16 @@ pub fn encode(st: Progress) -> [u64; NUMBERS]
                 m.at as u64,
                 m.head as u64,
                 m.size as u64,
-                of_plain(f.plain),
+                u64::from(f.plain),
             ]
         }
     }
 }
 
-// The numbers with the phase's first value and the bytes so far anew, and all others as they are.
-pub fn moved_on(ns: &[u64; NUMBERS], a: u64, total: u64) -> [u64; NUMBERS]
-    ensures { state_of result ≡ moved_on ns.now a total }
+// The phase's first value and the bytes so far anew, and all others as they are.
+pub fn move_on(ns: &mut [u64; NUMBERS], a: u64, total: u64)
+    ensures { state_of ns.new ≡ moved_on ns.old a total }
 {
-    [
-        ns[0], a, ns[2], total, ns[4], ns[5], ns[6], ns[7], ns[8], ns[9], ns[10], ns[11], ns[12],
-        ns[13], ns[14], ns[15], ns[16], ns[17], ns[18], ns[19], ns[20], ns[21], ns[22], ns[23],
-    ]
+    ns[1] = a;
+    ns[3] = total;
 }

@@ -1,5 +1,5 @@
 -- The player computed on small tracks: each reason to be stuck, and beside it the same track without that reason; and verdicts on whole tracks.
-use Rattle.std.specs.Prelude.{◌≡◌, refl, List, [], ◌∷◌, ◌++◌, ℕ, length, take}
+use Rattle.std.specs.Prelude.{◌≡◌, refl, List, [], ◌∷◌, ◌++◌, ℕ, length, take, Ok}
 use Rattle.rules.specs.Kinds.{mdat, tfdt, trun, vide, soun, vmhd, letters}
 use Rattle.rules.specs.Bytes.{in4, zeros, boxed, header_with, header, run, moof_of, moof_of8, chunk, track_t, single, shifted}
 use Rattle.rules.specs.Computed.{computed}
@@ -7,7 +7,7 @@ use Rattle.rules.specs.Track.{ruling}
 use Rattle.rules.specs.Bundle.{tracks}
 use Rattle.rules.specs.Set.{set_ruling, set_outcome}
 use Rattle.rules.specs.Player.{stuck, passed, play, rules_before_timing}
-use Rattle.rules.specs.declared.Rule.TheVariants.{Holds, Breaks}
+use Rattle.rules.specs.Rules.{breaks}
 
 -- T plays through: the first start, then the clock after each fragment
 pub plays_t : play (track_t ∷ []) (0 ∷ 0 ∷ []) ≡ passed (0 ∷ 180000 ∷ 360000 ∷ [])
@@ -91,7 +91,7 @@ pub sample_inside : play (single 0 108 31 ∷ []) (0 ∷ []) ≡ passed (0 ∷ 1
 unfolding computed single
 sample_inside = refl
 
-pub sample_inside_refused : ruling (single 0 108 31) ≡ Breaks 22 0 592
+pub sample_inside_refused : ruling (single 0 108 31) ≡ breaks 22 0 592
 unfolding computed single
 sample_inside_refused = refl
 
@@ -116,7 +116,7 @@ cut = take 629 (single 0 108 30)
 unfoldable pub between : List ℕ
 between = header ++ moof_of 0 (run 0 108 []) ++ boxed (letters 0x66 0x72 0x65 0x65) [] ++ boxed mdat (zeros 30)
 
-pub breaks_4 : rules_before_timing cut ≡ Breaks 4 0 592
+pub breaks_4 : rules_before_timing cut ≡ breaks 4 0 592
 unfolding computed single cut
 breaks_4 = refl
 
@@ -124,7 +124,7 @@ pub stuck_4 : play (cut ∷ []) (0 ∷ []) ≡ stuck
 unfolding computed single cut
 stuck_4 = refl
 
-pub breaks_6 : rules_before_timing between ≡ Breaks 6 0 592
+pub breaks_6 : rules_before_timing between ≡ breaks 6 0 592
 unfolding computed between
 breaks_6 = refl
 
@@ -144,7 +144,7 @@ stuck_12 = refl
 unfoldable pub two_starts : List ℕ
 two_starts = header ++ chunk 0 108 30 ++ moof_of 180000 (boxed tfdt (zeros 8) ++ run 0 124 []) ++ boxed mdat (zeros 30)
 
-pub breaks_14 : rules_before_timing two_starts ≡ Breaks 14 0 694
+pub breaks_14 : rules_before_timing two_starts ≡ breaks 14 0 694
 unfolding computed two_starts
 breaks_14 = refl
 
@@ -153,12 +153,12 @@ unfolding computed two_starts
 stuck_14_ahead = refl
 
 -- T beside itself is an accepted set
-pub set_accepted : set_ruling (track_t ∷ track_t ∷ []) ≡ Holds
+pub set_accepted : set_ruling (track_t ∷ track_t ∷ []) ≡ Ok tt
 unfolding computed
 set_accepted = refl
 
 -- a non-sync first sample of the track's first chunk is refused under 21
-pub non_sync_refused : ruling (first_flagged 0x1010000) ≡ Breaks 21 0 556
+pub non_sync_refused : ruling (first_flagged 0x1010000) ≡ breaks 21 0 556
 unfolding computed first_flagged
 non_sync_refused = refl
 
@@ -166,11 +166,11 @@ non_sync_refused = refl
 unfoldable pub ends_late : ℕ → List ℕ
 ends_late start = header ++ moof_of8 start (run 0 112 []) ++ boxed mdat (zeros 30)
 
-pub last_tick_accepted : ruling (ends_late 9223372036854595807) ≡ Holds
+pub last_tick_accepted : ruling (ends_late 9223372036854595807) ≡ Ok tt
 unfolding computed ends_late
 last_tick_accepted = refl
 
-pub later_tick_refused : ruling (ends_late 9223372036854595808) ≡ Breaks 20 0 560
+pub later_tick_refused : ruling (ends_late 9223372036854595808) ≡ breaks 20 0 560
 unfolding computed ends_late
 later_tick_refused = refl
 

@@ -1,6 +1,6 @@
 -- Chunks, computed: the player takes a fragment of several in one step, each with its own clock and its own `mdat`; a set of tracks with the same
 -- fragments in other chunks; and each source of flags by which a chunk begins a fragment or continues one.
-use Rattle.std.specs.Prelude.{ℕ, List, [], ◌∷◌, ◌++◌, map, ◌≡◌, refl}
+use Rattle.std.specs.Prelude.{ℕ, List, [], ◌∷◌, ◌++◌, map, ◌≡◌, refl, Ok}
 use Rattle.rules.specs.Kinds.{trun, moof, mdat}
 use Rattle.rules.specs.Bytes.{in4, zeros, boxed, header, run, moof_of, chunk, track_t, flagged_chunk, sync_flags, other_flags, three_chunks, track_u}
 use Rattle.rules.specs.Computed.{computed}
@@ -9,8 +9,7 @@ use Rattle.rules.specs.Plays.{moof_by}
 use Rattle.rules.specs.Track.{ruling, fragment_count}
 use Rattle.rules.specs.Set.{set_ruling}
 use Rattle.rules.specs.Player.{Played, stuck, passed, play}
-use Rattle.rules.specs.declared.Rule.{Rule}
-use Rattle.rules.specs.declared.Rule.TheVariants.{Holds, Breaks}
+use Rattle.rules.specs.Rules.{Rule, breaks}
 use Rattle.player.specs.Switching.{header_v}
 
 -- U's first fragment alone: two chunks, each by its data offset and the payload's length
@@ -77,7 +76,7 @@ unfolding computed in_thirds bare_second
 three_in_turn = refl
 
 -- T and W are an accepted set
-pub set_t_w : set_ruling (track_t ∷ track_w ∷ []) ≡ Holds
+pub set_t_w : set_ruling (track_t ∷ track_w ∷ []) ≡ Ok tt
 unfolding computed track_w
 set_t_w = refl
 
@@ -91,7 +90,7 @@ switches_t_w = refl
 unfoldable pub in_three : List ℕ
 in_three = header ++ flagged_chunk 0 sync_flags ++ flagged_chunk 180000 sync_flags ++ flagged_chunk 360000 sync_flags
 
-pub chunks_27 : set_ruling (track_u ∷ in_three ∷ []) ≡ Breaks 27 1 918
+pub chunks_27 : set_ruling (track_u ∷ in_three ∷ []) ≡ breaks 27 1 918
 unfolding computed in_three
 chunks_27 = refl
 
@@ -163,15 +162,15 @@ no_ticks start flags =
 -- verdicts on two of them: a later chunk may be non-sync, the first may not, which is 21 at its first run; and the order of the rules
 unfoldable pub verdicts : List (List ℕ × Rule)
 verdicts =
-    (header_v ++ by_tfhd 128 (empty_run 128 other_flags) 0 sync_flags ++ by_trex 124 (empty_run 124 sync_flags) 90000, Holds)
-    ∷ (header ++ by_own 104 [] 0 other_flags ++ by_trex 100 [] 90000, Breaks 21 0 556)
+    (header_v ++ by_tfhd 128 (empty_run 128 other_flags) 0 sync_flags ++ by_trex 124 (empty_run 124 sync_flags) 90000, Ok tt)
+    ∷ (header ++ by_own 104 [] 0 other_flags ++ by_trex 100 [] 90000, breaks 21 0 556)
     -- 21 before 22 and behind 20; before 19 of the second chunk
-    ∷ (header ++ moof_of 0 (run 0x4 111 (in4 other_flags)) ++ boxed mdat (zeros 30), Breaks 21 0 556)
-    ∷ (header ++ no_ticks 0 other_flags, Breaks 20 0 556)
-    ∷ (three_chunks 180001 other_flags, Breaks 21 0 556)
+    ∷ (header ++ moof_of 0 (run 0x4 111 (in4 other_flags)) ++ boxed mdat (zeros 30), breaks 21 0 556)
+    ∷ (header ++ no_ticks 0 other_flags, breaks 20 0 556)
+    ∷ (three_chunks 180001 other_flags, breaks 21 0 556)
     -- 22 of the first chunk before 14 of the second; 20 of a chunk that continues a fragment
-    ∷ (header ++ chunk 0 107 30 ++ boxed moof [] ++ boxed mdat [], Breaks 22 0 556)
-    ∷ (header ++ half_chunk 0 sync_flags ++ no_ticks 90000 other_flags, Breaks 20 0 670)
+    ∷ (header ++ chunk 0 107 30 ++ boxed moof [] ++ boxed mdat [], breaks 22 0 556)
+    ∷ (header ++ half_chunk 0 sync_flags ++ no_ticks 90000 other_flags, breaks 20 0 670)
     ∷ []
 
 pub verdicts_by_flags : map (λ e. ruling e.0) verdicts ≡ map (λ e. e.1) verdicts

@@ -1,5 +1,5 @@
 -- A set of two different tracks, computed: accepted, and played with a switch at every boundary. Then offsets below 0.
-use Rattle.std.specs.Prelude.{ℕ, List, [], ◌∷◌, ◌++◌, map, ◌≡◌, refl, take}
+use Rattle.std.specs.Prelude.{ℕ, List, [], ◌∷◌, ◌++◌, map, ◌≡◌, refl, take, Ok}
 use Rattle.rules.specs.Kinds.{trun, mdat}
 use Rattle.rules.specs.Bytes.{in4, in8, zeros, boxed, header, run, moof_of, chunk, track_t}
 use Rattle.rules.specs.Computed.{computed}
@@ -8,8 +8,7 @@ use Rattle.rules.specs.Plays.{moof_by}
 use Rattle.rules.specs.Track.{ruling, boundaries}
 use Rattle.rules.specs.Set.{set_ruling, set_outcome}
 use Rattle.rules.specs.Player.{stuck, passed, play}
-use Rattle.rules.specs.declared.Rule.{Rule}
-use Rattle.rules.specs.declared.Rule.TheVariants.{Holds, Breaks}
+use Rattle.rules.specs.Rules.{Rule, breaks}
 
 -- T's header, but with `trex` default flags that say non-sync
 unfoldable pub header_v : List ℕ
@@ -37,11 +36,11 @@ unfolding moof_by header_v first_v second_v
 track_v = header_v ++ first_v ++ second_v
 
 -- V is accepted by itself, and beside T
-pub v_accepted : ruling track_v ≡ Holds
+pub v_accepted : ruling track_v ≡ Ok tt
 unfolding computed track_v
 v_accepted = refl
 
-pub set_t_v : set_ruling (track_t ∷ track_v ∷ []) ≡ Holds
+pub set_t_v : set_ruling (track_t ∷ track_v ∷ []) ≡ Ok tt
 unfolding computed track_v
 set_t_v = refl
 
@@ -75,9 +74,9 @@ far size offset =
 unfoldable pub negatives : List (List ℕ × Rule)
 negatives =
     -- the first run's offset is -1
-    (header ++ chunk 0 4294967295 30, Breaks 22 0 556)
+    (header ++ chunk 0 4294967295 30, breaks 22 0 556)
     -- a later run's is -1, where the sizes before it lead to 4,294,967,295: the same four bytes, read as unsigned
-    ∷ (far 4294967159 4294967295, Breaks 22 0 584)
+    ∷ (far 4294967159 4294967295, breaks 22 0 584)
     ∷ []
 
 -- offsets below 0 are refused, and the player is stuck on them

@@ -12,7 +12,8 @@ use borrow.Author.Tests.{ne_eqb, le-ltb}
 use Rattle.rules.specs.Bundle.{tracks}
 use Rattle.rules.specs.Track.{fragment_count, timescale, boundaries, refused, accepted, room_for}
 use Rattle.rules.specs.Set.{track0, bundle_ruling, set_outcome}
-use Rattle.rules.specs.declared.Rule.TheVariants.{Holds, Breaks}
+use Rattle.rules.specs.Rules.{breaks}
+use Rattle.std.specs.Prelude.{Ok}
 use Rattle.rules.proofs.Boundaries.{boundaries_length}
 use Rattle.rules.proofs.Refusals.{never_0}
 use Rattle.rules.proofs.Caller.{caller_0}
@@ -39,7 +40,7 @@ table_room = length-replicate {A = ℕ} 1024 0
 
 module _ (b : List ℕ) (h : length b ≤ input_limit) where
   -- a bundle that breaks a rule
-  pub refused_text : {n k p : ℕ} → bundle_ruling b ≡ Breaks n k p → printed b ≡ refused_line n k p
+  pub refused_text : {n k p : ℕ} → bundle_ruling b ≡ breaks n k p → printed b ≡ refused_line n k p
   unfolding set_outcome
   refused_text {n} {k} {p} e =
       let o : refused n k p table ≡ set_outcome b table = rw e in
@@ -51,7 +52,7 @@ module _ (b : List ℕ) (h : length b ≤ input_limit) where
   counts count scale numbers o = (caller_0 b table (accepted count scale numbers table) o refl).1
 
   -- a bundle that keeps them all, with no more boundaries than the table has room for
-  pub accepted_text : bundle_ruling b ≡ Holds → length (boundaries (track0 (tracks b))) ≤ 1024
+  pub accepted_text : bundle_ruling b ≡ Ok tt → length (boundaries (track0 (tracks b))) ≤ 1024
       → printed b ≡ accepted_line (length (tracks b)) (fragment_count (track0 (tracks b))) (timescale (track0 (tracks b)))
       ++ tick_lines (boundaries (track0 (tracks b)))
   unfolding set_outcome room_for

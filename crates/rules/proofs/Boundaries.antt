@@ -15,9 +15,7 @@ use Rattle.rules.specs.Chunk.{start_of, tfdt_in, first_run, sync_in, follows, op
 use Rattle.rules.specs.Track.{ruling, rules_of_chunks, header_of, chunks, mdat_at, shape_at, timing_at, start_at, end_at, sync_at, Fragment, continuing, begun_among, in_fragments, fragments, first_moofs, fragment_count, last_end, end_list, ticks, boundaries}
 use Rattle.rules.specs.Player.{Piece, Stretch, fed_at, piece_at, stretch_at, fits, in_turn, clock_after, ends_at}
 use Rattle.rules.specs.Plans.{All}
-use Rattle.rules.specs.declared.Previous.{Previous}
-use Rattle.rules.specs.declared.Previous.TheVariants.{Unset, End}
-use Rattle.rules.specs.declared.Rule.TheVariants.{Holds}
+use Rattle.std.specs.Prelude.{Option, None, Some, Ok}
 use Rattle.rules.specs.declared.Header.{Header}
 use Rattle.rules.proofs.Then.{then_first, then_second, must_holds, moved_held}
 use Rattle.rules.proofs.Walk.{DataBox, data_boxes, some_chunk}
@@ -53,15 +51,15 @@ tiles_fewer [] a (b ∷ bs) (suc n) h = absurd h
 tiles_fewer (f ∷ fs) a (b ∷ bs) (suc n) h = (h.0, tiles_fewer fs b bs n h.1)
 
 -- what the timing says of a chunk, for the player
-module _ (s : List ℕ) (h : Header) (prev : Previous) (x : ℕ) (t : timing_at s h prev x ≡ Holds) where
-  timed : timing (whole s x) h.defaults (head_of s (mdat_at s x)) (size_of s (mdat_at s x) - head_of s (mdat_at s x)) prev ≡ Holds
+module _ (s : List ℕ) (h : Header) (prev : Option ℕ) (x : ℕ) (t : timing_at s h prev x ≡ Ok tt) where
+  timed : timing (whole s x) h.defaults (head_of s (mdat_at s x)) (size_of s (mdat_at s x) - head_of s (mdat_at s x)) prev ≡ Ok tt
   unfolding timing_at
   timed = moved_held x _ t
 
   behind_start : rule20 (whole s x) h.defaults
       then rule21 (whole s x) h.defaults prev
       then rule22 (whole s x) h.defaults (head_of s (mdat_at s x)) (size_of s (mdat_at s x) - head_of s (mdat_at s x))
-      ≡ Holds
+      ≡ Ok tt
   unfolding timing
   behind_start = then_second _ _ timed
 
@@ -81,26 +79,26 @@ module _ (s : List ℕ) (h : Header) (prev : Previous) (x : ℕ) (t : timing_at 
   fed b = fed_at_lem s h x (then_second _ _ (then_second _ _ behind_start)) b
 
 -- rule 19 after an end: the `tfdt` is that end
-starts : (s : List ℕ) (h : Header) (e x : ℕ) → timing_at s h (End e) x ≡ Holds → start_at s x ≡ e
+starts : (s : List ℕ) (h : Header) (e x : ℕ) → timing_at s h (Some e) x ≡ Ok tt → start_at s x ≡ e
 unfolding follows
-starts s h e x t = eqb-true (start_at s x) e (followed s h (End e) x t)
+starts s h e x t = eqb-true (start_at s x) e (followed s h (Some e) x t)
 
 -- rule 21 before any end: the first sample is sync
-on_sync : (s : List ℕ) (h : Header) (x : ℕ) → timing_at s h Unset x ≡ Holds → sync_at s h x ≡ true
+on_sync : (s : List ℕ) (h : Header) (x : ℕ) → timing_at s h None x ≡ Ok tt → sync_at s h x ≡ true
 unfolding opens
-on_sync s h x t = opened s h Unset x t
+on_sync s h x t = opened s h None x t
 
 -- chunks that their rules accept: the timing of the first, and those after it
-module _ (s : List ℕ) (h : Header) (prev : Previous) (x : ℕ) (xs : List ℕ) (r : rules_of_chunks s h prev (x ∷ xs) ≡ Holds) where
-  behind_shape : timing_at s h prev x then rules_of_chunks s h (End (end_at s h x)) xs ≡ Holds
+module _ (s : List ℕ) (h : Header) (prev : Option ℕ) (x : ℕ) (xs : List ℕ) (r : rules_of_chunks s h prev (x ∷ xs) ≡ Ok tt) where
+  behind_shape : timing_at s h prev x then rules_of_chunks s h (Some (end_at s h x)) xs ≡ Ok tt
   unfolding rules_of_chunks
-  behind_shape = then_second (shape_at s h x) (timing_at s h prev x then rules_of_chunks s h (End (end_at s h x)) xs) r
+  behind_shape = then_second (shape_at s h x) (timing_at s h prev x then rules_of_chunks s h (Some (end_at s h x)) xs) r
 
-  first_timed : timing_at s h prev x ≡ Holds
-  first_timed = then_first (timing_at s h prev x) (rules_of_chunks s h (End (end_at s h x)) xs) behind_shape
+  first_timed : timing_at s h prev x ≡ Ok tt
+  first_timed = then_first (timing_at s h prev x) (rules_of_chunks s h (Some (end_at s h x)) xs) behind_shape
 
-  behind_first : rules_of_chunks s h (End (end_at s h x)) xs ≡ Holds
-  behind_first = then_second (timing_at s h prev x) (rules_of_chunks s h (End (end_at s h x)) xs) behind_shape
+  behind_first : rules_of_chunks s h (Some (end_at s h x)) xs ≡ Ok tt
+  behind_first = then_second (timing_at s h prev x) (rules_of_chunks s h (Some (end_at s h x)) xs) behind_shape
 
 -- what the player meets of fragments and of the chunks that continue one, and the ends of fragments
 module _ (s : List ℕ) (h : Header) where
@@ -114,100 +112,100 @@ module _ (s : List ℕ) (h : Header) where
   ends fs = map (λ f. ends_at (stretch_at s h f)) fs
 
   -- chunks after an end that their rules accept: those that continue the fragment go in turn from that end
-  in_turn_lem : (e : ℕ) (xs : List ℕ) → rules_of_chunks s h (End e) xs ≡ Holds → All (DataBox s) xs → in_turn (some e) (going_on xs) ≡ true
+  in_turn_lem : (e : ℕ) (xs : List ℕ) → rules_of_chunks s h (Some e) xs ≡ Ok tt → All (DataBox s) xs → in_turn (some e) (going_on xs) ≡ true
   unfolding continuing in_turn fits piece_at
   in_turn_lem e [] r b = refl
-  in_turn_lem e (x ∷ xs) r b = go (sync_at s h x) (in_turn_lem (end_at s h x) xs (behind_first s h (End e) x xs r) b.1)
+  in_turn_lem e (x ∷ xs) r b = go (sync_at s h x) (in_turn_lem (end_at s h x) xs (behind_first s h (Some e) x xs r) b.1)
     where
-      t : timing_at s h (End e) x ≡ Holds
-      t = first_timed s h (End e) x xs r
+      t : timing_at s h (Some e) x ≡ Ok tt
+      t = first_timed s h (Some e) x xs r
 
       go : (y : Bool) → in_turn (some (end_at s h x)) (going_on xs) ≡ true
           → in_turn (some e) (map (piece_at s h) (when y [] (x ∷ continuing (sync_at s h) xs))) ≡ true
       go true n = refl
-      go false n = rw (eq-eqb e (start_at s x) (sym (starts s h e x t)), fed s h (End e) x t b.0, n)
+      go false n = rw (eq-eqb e (start_at s x) (sym (starts s h e x t)), fed s h (Some e) x t b.0, n)
 
   -- and the fragments that begin among them run from where those end, each over its own end
-  later : (e : ℕ) (xs : List ℕ) → rules_of_chunks s h (End e) xs ≡ Holds → All (DataBox s) xs
+  later : (e : ℕ) (xs : List ℕ) → rules_of_chunks s h (Some e) xs ≡ Ok tt → All (DataBox s) xs
       → TilesFrom (met (begun_among (sync_at s h) xs)) (clock_after e (going_on xs)) (ends (begun_among (sync_at s h) xs))
   unfolding continuing begun_among clock_after piece_at stretch_at
   later e [] r b = tt
   later e (x ∷ xs) r b = go (sync_at s h x) refl (later (end_at s h x) xs l b.1)
     where
-      l : rules_of_chunks s h (End (end_at s h x)) xs ≡ Holds
-      l = behind_first s h (End e) x xs r
+      l : rules_of_chunks s h (Some (end_at s h x)) xs ≡ Ok tt
+      l = behind_first s h (Some e) x xs r
 
-      t : timing_at s h (End e) x ≡ Holds
-      t = first_timed s h (End e) x xs r
+      t : timing_at s h (Some e) x ≡ Ok tt
+      t = first_timed s h (Some e) x xs r
 
       go : (y : Bool) → sync_at s h x ≡ y
           → TilesFrom (met (begun_among (sync_at s h) xs)) (clock_after (end_at s h x) (going_on xs)) (ends (begun_among (sync_at s h) xs))
           → TilesFrom (met (when y (begun (sync_at s h) x xs ∷ begun_among (sync_at s h) xs) (begun_among (sync_at s h) xs)))
           (clock_after e (map (piece_at s h) (when y [] (x ∷ continuing (sync_at s h) xs))))
           (ends (when y (begun (sync_at s h) x xs ∷ begun_among (sync_at s h) xs) (begun_among (sync_at s h) xs)))
-      go true q n = ((starts s h e x t, refl, q, fed s h (End e) x t b.0, in_turn_lem (end_at s h x) xs l b.1), n)
+      go true q n = ((starts s h e x t, refl, q, fed s h (Some e) x t b.0, in_turn_lem (end_at s h x) xs l b.1), n)
       go false q n = n
 
   -- the starts of the fragments that begin among chunks after an end, and the last end: where those before them end, then their ends
-  later_ticks : (e : ℕ) (xs : List ℕ) → rules_of_chunks s h (End e) xs ≡ Holds
-      → map (start_at s) (first_moofs (begun_among (sync_at s h) xs)) ++ end_list (last_end s h (End e) xs)
+  later_ticks : (e : ℕ) (xs : List ℕ) → rules_of_chunks s h (Some e) xs ≡ Ok tt
+      → map (start_at s) (first_moofs (begun_among (sync_at s h) xs)) ++ end_list (last_end s h (Some e) xs)
       ≡ clock_after e (going_on xs) ∷ ends (begun_among (sync_at s h) xs)
   unfolding continuing begun_among last_end clock_after piece_at stretch_at
   later_ticks e [] r = refl
-  later_ticks e (x ∷ xs) r = go (sync_at s h x) (later_ticks (end_at s h x) xs (behind_first s h (End e) x xs r))
+  later_ticks e (x ∷ xs) r = go (sync_at s h x) (later_ticks (end_at s h x) xs (behind_first s h (Some e) x xs r))
     where
       go : (y : Bool)
-          → map (start_at s) (first_moofs (begun_among (sync_at s h) xs)) ++ end_list (last_end s h (End (end_at s h x)) xs)
+          → map (start_at s) (first_moofs (begun_among (sync_at s h) xs)) ++ end_list (last_end s h (Some (end_at s h x)) xs)
           ≡ clock_after (end_at s h x) (going_on xs) ∷ ends (begun_among (sync_at s h) xs)
           → map (start_at s) (first_moofs (when y (begun (sync_at s h) x xs ∷ begun_among (sync_at s h) xs) (begun_among (sync_at s h) xs)))
-          ++ end_list (last_end s h (End (end_at s h x)) xs)
+          ++ end_list (last_end s h (Some (end_at s h x)) xs)
           ≡ clock_after e (map (piece_at s h) (when y [] (x ∷ continuing (sync_at s h) xs)))
           ∷ ends (when y (begun (sync_at s h) x xs ∷ begun_among (sync_at s h) xs) (begun_among (sync_at s h) xs))
       go true n =
-          ap₂ {C = List ℕ} (λ (a : ℕ) (bs : List ℕ). a ∷ bs) (starts s h e x (first_timed s h (End e) x xs r)) n
+          ap₂ {C = List ℕ} (λ (a : ℕ) (bs : List ℕ). a ∷ bs) (starts s h e x (first_timed s h (Some e) x xs r)) n
       go false n = n
 
   -- the fragments of a track whose chunks their rules accept, the first of them where it likes
-  tiled_from : (xs : List ℕ) → rules_of_chunks s h Unset xs ≡ Holds → All (DataBox s) xs
+  tiled_from : (xs : List ℕ) → rules_of_chunks s h None xs ≡ Ok tt → All (DataBox s) xs
       → Tiled (met (in_fragments (sync_at s h) xs)) (ticks s h xs)
   unfolding ticks last_end in_fragments piece_at stretch_at
   tiled_from [] r b = tt
   tiled_from (x ∷ xs) r b =
-      let t = first_timed s h Unset x xs r in
-      let l = behind_first s h Unset x xs r in
+      let t = first_timed s h None x xs r in
+      let l = behind_first s h None x xs r in
       rw (later_ticks (end_at s h x) xs l)
-      ((refl, refl, on_sync s h x t, fed s h Unset x t b.0, in_turn_lem (end_at s h x) xs l b.1), later (end_at s h x) xs l b.1)
+      ((refl, refl, on_sync s h x t, fed s h None x t b.0, in_turn_lem (end_at s h x) xs l b.1), later (end_at s h x) xs l b.1)
 
   -- and each of them begins on a sync chunk, the first as any other
-  all_begin : (xs : List ℕ) → rules_of_chunks s h Unset xs ≡ Holds → in_fragments (sync_at s h) xs ≡ begun_among (sync_at s h) xs
+  all_begin : (xs : List ℕ) → rules_of_chunks s h None xs ≡ Ok tt → in_fragments (sync_at s h) xs ≡ begun_among (sync_at s h) xs
   unfolding in_fragments begun_among
   all_begin [] r = refl
-  all_begin (x ∷ xs) r = opens_alike (sync_at s h) x xs (on_sync s h x (first_timed s h Unset x xs r))
+  all_begin (x ∷ xs) r = opens_alike (sync_at s h) x xs (on_sync s h x (first_timed s h None x xs r))
 
 -- each chunk of an accepted track has its data box right behind it
-pub boxed_data : (s : List ℕ) → ruling s ≡ Holds → All (DataBox s) (chunks s)
+pub boxed_data : (s : List ℕ) → ruling s ≡ Ok tt → All (DataBox s) (chunks s)
 boxed_data s r = data_boxes s (accepted_keeps s r).0.2
 
 -- it has a fragment
-pub a_fragment : (s : List ℕ) → ruling s ≡ Holds → 1 ≤ fragment_count s
+pub a_fragment : (s : List ℕ) → ruling s ≡ Ok tt → 1 ≤ fragment_count s
 unfolding fragment_count fragments
 a_fragment s r = some_fragment (sync_at s (header_of s)) (chunks s) (some_chunk s (accepted_keeps s r).0.2)
 
 -- its fragments run from boundary to boundary
-pub tiled : (s : List ℕ) → ruling s ≡ Holds → Tiled (map (stretch_at s (header_of s)) (fragments s)) (boundaries s)
+pub tiled : (s : List ℕ) → ruling s ≡ Ok tt → Tiled (map (stretch_at s (header_of s)) (fragments s)) (boundaries s)
 unfolding boundaries fragments
 tiled s r = tiled_from s (header_of s) (chunks s) (accepted_keeps s r).1 (boxed_data s r)
 
 -- and they are those that begin on a sync chunk: rule 21 has the track's first be one
-pub begin_on_sync : (s : List ℕ) → ruling s ≡ Holds → fragments s ≡ begun_among (sync_at s (header_of s)) (chunks s)
+pub begin_on_sync : (s : List ℕ) → ruling s ≡ Ok tt → fragments s ≡ begun_among (sync_at s (header_of s)) (chunks s)
 unfolding fragments
 begin_on_sync s r = all_begin s (header_of s) (chunks s) (accepted_keeps s r).1
 
-pub opens_on_sync : (s : List ℕ) → ruling s ≡ Holds → first_moofs (fragments s) ≡ first_moofs (begun_among (sync_at s (header_of s)) (chunks s))
+pub opens_on_sync : (s : List ℕ) → ruling s ≡ Ok tt → first_moofs (fragments s) ≡ first_moofs (begun_among (sync_at s (header_of s)) (chunks s))
 opens_on_sync s r = ap first_moofs (begin_on_sync s r)
 
 -- there is one boundary more than there are fragments
-one_end : (s : List ℕ) (h : Header) (e : ℕ) (xs : List ℕ) → length (end_list (last_end s h (End e) xs)) ≡ 1
+one_end : (s : List ℕ) (h : Header) (e : ℕ) (xs : List ℕ) → length (end_list (last_end s h (Some e) xs)) ≡ 1
 unfolding last_end
 one_end s h e [] = refl
 one_end s h e (x ∷ xs) = one_end s h (end_at s h x) xs
@@ -216,7 +214,7 @@ some_ticks : (s : List ℕ) (h : Header) (x : ℕ) (xs : List ℕ) → length (t
 unfolding ticks last_end
 some_ticks s h x xs =
     let fs = in_fragments (sync_at s h) (x ∷ xs) in
-    let e = length-append (map (start_at s) (first_moofs fs)) (end_list (last_end s h (End (end_at s h x)) xs)) in
+    let e = length-append (map (start_at s) (first_moofs fs)) (end_list (last_end s h (Some (end_at s h x)) xs)) in
     let n = length-map (first_moofs fs) (start_at s) in
     let m = length-map fs (λ f. f.first) in
     e ∙ omega (arith, n, m, one_end s h (end_at s h x) xs)

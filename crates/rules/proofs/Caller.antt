@@ -10,14 +10,13 @@ use lib.Seq.{take-append-le}
 use lib.Dec.{ltb}
 use Rattle.numbers.specs.Numbers.{when}
 use Rattle.rules.specs.Refusals.{member, set_numbers}
-use Rattle.rules.specs.Rules.{◌then◌, on_rule}
+use Rattle.rules.specs.Rules.{◌then◌, on_rule, Rule, breaks}
 use Rattle.rules.specs.Track.{rule1, fragment_count, timescale, boundaries, Outcome, refused, accepted, room_for}
 use Rattle.rules.specs.Bundle.{Records, none, wrong, track, records, rule24_from, rule24, tracks_of, tracks}
 use Rattle.rules.specs.Set.{rulings, agree, track0, set_ruling, bundle_ruling, set_outcome}
 use Rattle.rules.specs.Player.{Played, passed, play}
 use Rattle.rules.specs.Plans.{All, Plan, ToldApart, Singly}
-use Rattle.rules.specs.declared.Rule.{Rule}
-use Rattle.rules.specs.declared.Rule.TheVariants.{Holds, Breaks}
+use Rattle.std.specs.Prelude.{Ok, Err}
 use Rattle.rules.proofs.Then.{broken, then_first, then_second}
 use Rattle.rules.proofs.Boundaries.{a_fragment, boundaries_length}
 use Rattle.rules.proofs.Refusals.{never_0, refused_as_set}
@@ -28,7 +27,7 @@ use Rattle.rules.proofs.SecondHalf.{stays, names_a_track, second_half}
 -- of fragments, and the table begins with its boundaries
 abbrev AcceptedSet : List ℕ → List ℕ → Outcome → Type 0
 AcceptedSet b t o =
-    (bundle_ruling b ≡ Holds)
+    (bundle_ruling b ≡ Ok tt)
     × (o.verdict.number ≡ 0)
     × (o.verdict.count ≡ fragment_count (track0 (tracks b)))
     × (o.table ≡ boundaries (track0 (tracks b)) ++ drop (length (boundaries (track0 (tracks b)))) t)
@@ -45,15 +44,15 @@ accepts b t has no-refusal h = go (bundle_ruling b) refl h
     f : Rule → Outcome
     f r = on_rule r (λ _. room_for (fragment_count s₀) (timescale s₀) (boundaries s₀) t) (λ n k p. refused n k p t)
 
-    room : (w : Bool) → bundle_ruling b ≡ Holds
+    room : (w : Bool) → bundle_ruling b ≡ Ok tt
         → has (when w (refused 23 0 0 t) (accepted (fragment_count s₀) (timescale s₀) (boundaries s₀) t))
         → AcceptedSet b t (when w (refused 23 0 0 t) (accepted (fragment_count s₀) (timescale s₀) (boundaries s₀) t))
     room true e y = absurd (no-refusal 23 0 0 (omega arith) y)
     room false e y = (e, refl, refl, refl)
 
     go : (r : Rule) → bundle_ruling b ≡ r → has (f r) → AcceptedSet b t (f r)
-    go Holds e y = room (ltb (length t) (length (boundaries s₀))) e y
-    go (Breaks n k p) e y = absurd (no-refusal n k p (never_0 b n k p e) y)
+    go (Ok u) e y = room (ltb (length t) (length (boundaries s₀))) e y
+    go (Err q) e y = absurd (no-refusal q.number q.track q.place (never_0 b q.number q.track q.place e) y)
 
 -- a count of at least one is an acceptance: a refusal counts none
 pub count_accepts : (b t : List ℕ) → 1 ≤ (set_outcome b t).verdict.count → AcceptedSet b t (set_outcome b t)
@@ -66,18 +65,18 @@ unfolding refused
 zero_accepts b t h = accepts b t (λ o. o.verdict.number ≡ 0) (λ n k p l y. let z : ⊥ = omega (arith, l, y) in z) h
 
 -- an accepted bundle has a track
-a_track : (b : List ℕ) → bundle_ruling b ≡ Holds → 1 ≤ length (tracks b)
+a_track : (b : List ℕ) → bundle_ruling b ≡ Ok tt → 1 ≤ length (tracks b)
 unfolding bundle_ruling rule24 rule24_from tracks tracks_of
 a_track b h =
     go (records b) (then_first (rule24 b) (set_ruling (tracks b)) (then_second (rule1 (length b)) (rule24 b then set_ruling (tracks b)) h))
   where
-    go : (rs : Records) → rule24_from 0 rs ≡ Holds → 1 ≤ length (tracks_of b rs)
+    go : (rs : Records) → rule24_from 0 rs ≡ Ok tt → 1 ≤ length (tracks_of b rs)
     go none e = absurd (broken e)
     go (wrong at) e = absurd (broken e)
     go (track from n rs) e = omega arith
 
 -- and its track 0 has a fragment
-first_fragment : (ss : List (List ℕ)) → 1 ≤ length ss → set_ruling ss ≡ Holds → 1 ≤ fragment_count (track0 ss)
+first_fragment : (ss : List (List ℕ)) → 1 ≤ length ss → set_ruling ss ≡ Ok tt → 1 ≤ fragment_count (track0 ss)
 unfolding set_ruling
 first_fragment [] l h = let z : ⊥ = omega (arith, l) in absurd z
 first_fragment (s ∷ ss) l h =
@@ -121,7 +120,7 @@ caller_0 b t o e z =
 
 -- so the set that the bundle holds is accepted, and the plans that the count allows are its plans: each named consequence of the first
 -- half, fragment by fragment, holds of them
-pub caller_set : (b t : List ℕ) (o : Outcome) → o ≡ set_outcome b t → o.verdict.number ≡ 0 → set_ruling (tracks b) ≡ Holds
+pub caller_set : (b t : List ℕ) (o : Outcome) → o ≡ set_outcome b t → o.verdict.number ≡ 0 → set_ruling (tracks b) ≡ Ok tt
 caller_set b t o e z = accepted_set b (zero_accepts b t (sym (ap (λ (q : Outcome). q.verdict.number) e) ∙ z)).0
 
 pub caller_plan : (b t : List ℕ) (o : Outcome) → o ≡ set_outcome b t → (plan : List ℕ) → 1 ≤ length plan → length plan ≤ o.verdict.count
@@ -133,7 +132,7 @@ caller_plan b t o e plan h l a =
 
 -- an outcome with a number of a set is a refusal of the bundle, with the track that it names
 refusal_seen : (b t : List ℕ) → member (set_outcome b t).verdict.number set_numbers ≡ true
-    → (p : ℕ) × (bundle_ruling b ≡ Breaks (set_outcome b t).verdict.number (set_outcome b t).verdict.track p)
+    → (p : ℕ) × (bundle_ruling b ≡ breaks (set_outcome b t).verdict.number (set_outcome b t).verdict.track p)
 unfolding set_outcome room_for accepted refused member
 refusal_seen b t h = go (bundle_ruling b) refl h
   where
@@ -149,9 +148,9 @@ refusal_seen b t h = go (bundle_ruling b) refl h
     room false m = false≢true m
 
     go : (r : Rule) → bundle_ruling b ≡ r → member (f r).verdict.number set_numbers ≡ true
-        → (p : ℕ) × (bundle_ruling b ≡ Breaks (f r).verdict.number (f r).verdict.track p)
-    go Holds e m = absurd (room (ltb (length t) (length (boundaries s₀))) m)
-    go (Breaks n k p) e m = (p, e)
+        → (p : ℕ) × (bundle_ruling b ≡ breaks (f r).verdict.number (f r).verdict.track p)
+    go (Ok u) e m = absurd (room (ltb (length t) (length (boundaries s₀))) m)
+    go (Err q) e m = (q.place, e)
 
 -- the verdict was 27 or 28: it names a track of the bundle, and the two plans that stay on track 0 and on that one tell the set apart
 pub caller_27_or_28 : (b t : List ℕ) (o : Outcome) → o ≡ set_outcome b t → (o.verdict.number ≡ 27) ⊎ (o.verdict.number ≡ 28)
@@ -172,10 +171,10 @@ caller_27_or_28 b t o e w = subst Apart (sym e) (go (subst Number e w))
     k = (set_outcome b t).verdict.track
 
     at : (n : ℕ) → member n set_numbers ≡ true → (set_outcome b t).verdict.number ≡ n
-        → (p : ℕ) × Singly (tracks b) × (set_ruling (tracks b) ≡ Breaks n k p)
+        → (p : ℕ) × Singly (tracks b) × (set_ruling (tracks b) ≡ breaks n k p)
     at n l q =
         let y = refusal_seen b t (rw q l) in
-        let r = refused_as_set b n k y.0 l (y.1 ∙ ap (λ (i : ℕ). Breaks i k y.0) q) in
+        let r = refused_as_set b n k y.0 l (y.1 ∙ ap (λ (i : ℕ). breaks i k y.0) q) in
         (y.0, each_ruling 0 (tracks b) r.0, r.1)
 
     go : Number (set_outcome b t) → Apart (set_outcome b t)

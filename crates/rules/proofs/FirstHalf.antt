@@ -12,7 +12,7 @@ use Rattle.rules.specs.Bundle.{rule24, tracks}
 use Rattle.rules.specs.Set.{hdlr_at, mdhd_at, handler, same, first_or, rule28_from, rule28, agrees, rulings, agree, track0, set_ruling, bundle_ruling}
 use Rattle.rules.specs.Player.{stuck, passed, play}
 use Rattle.rules.specs.Plans.{All, Plan, Singly, HasFirstHalf}
-use Rattle.rules.specs.declared.Rule.TheVariants.{Holds}
+use Rattle.std.specs.Prelude.{Ok}
 use Rattle.rules.proofs.Laws.{all_at, all_map, below}
 use Rattle.rules.proofs.Then.{then_first, then_second, must_holds, of_track_lem}
 use Rattle.rules.proofs.Boundaries.{boundaries_length, as_many}
@@ -21,10 +21,10 @@ use Rattle.rules.proofs.Plays.{Passes, Chooses, alike_plays}
 -- an accepted track that is like another: the same timescale, as many fragments, the same boundaries
 abbrev pub LikeFirst : List ℕ → List ℕ → Type 0
 LikeFirst s₀ s =
-    (ruling s ≡ Holds) × (timescale s ≡ timescale s₀) × (fragment_count s ≡ fragment_count s₀) × (boundaries s ≡ boundaries s₀)
+    (ruling s ≡ Ok tt) × (timescale s ≡ timescale s₀) × (fragment_count s ≡ fragment_count s₀) × (boundaries s ≡ boundaries s₀)
 
 -- rule 28 over lists of one length: they are one list
-same_ticks : (last : ℕ) (xs ys ps : List ℕ) → length ys ≡ length xs → rule28_from last xs ys ps ≡ Holds → ys ≡ xs
+same_ticks : (last : ℕ) (xs ys ps : List ℕ) → length ys ≡ length xs → rule28_from last xs ys ps ≡ Ok tt → ys ≡ xs
 unfolding rule28_from
 same_ticks last [] [] ps l h = refl
 same_ticks last [] (y ∷ ys) ps l h = let z : ⊥ = omega (arith, l) in absurd z
@@ -37,12 +37,12 @@ same_ticks last (x ∷ xs) (y ∷ ys) ps l h =
     (same_ticks (first_or last ps) xs ys (drop 1 ps) (omega (arith, l)) (then_second first rest h))
 
 -- a value that is track 0's
-pub same_value : (n : ℕ) (value place : List ℕ → ℕ) (s₀ s : List ℕ) → same n value place s₀ s ≡ Holds → value s ≡ value s₀
+pub same_value : (n : ℕ) (value place : List ℕ → ℕ) (s₀ s : List ℕ) → same n value place s₀ s ≡ Ok tt → value s ≡ value s₀
 unfolding same
 same_value n value place s₀ s h = eqb-true (value s) (value s₀) (must_holds _ _ _ h)
 
 -- 25 to 28 make tracks alike
-agrees_alike : (s₀ s : List ℕ) → ruling s ≡ Holds → agrees s₀ s ≡ Holds → LikeFirst s₀ s
+agrees_alike : (s₀ s : List ℕ) → ruling s ≡ Ok tt → agrees s₀ s ≡ Ok tt → LikeFirst s₀ s
 unfolding agrees rule28
 agrees_alike s₀ s r h =
     let of26 = same 26 timescale mdhd_at s₀ s in
@@ -57,7 +57,7 @@ agrees_alike s₀ s r h =
     )
 
 -- tracks accepted one by one
-pub each_ruling : (k : ℕ) (ss : List (List ℕ)) → rulings k ss ≡ Holds → Singly ss
+pub each_ruling : (k : ℕ) (ss : List (List ℕ)) → rulings k ss ≡ Ok tt → Singly ss
 unfolding rulings
 each_ruling k [] h = tt
 each_ruling k (s ∷ ss) h = (
@@ -66,7 +66,7 @@ each_ruling k (s ∷ ss) h = (
 )
 
 -- tracks accepted, each beside track 0
-each_agrees : (s₀ : List ℕ) (k : ℕ) (ss : List (List ℕ)) → Singly ss → agree s₀ k ss ≡ Holds → All (LikeFirst s₀) ss
+each_agrees : (s₀ : List ℕ) (k : ℕ) (ss : List (List ℕ)) → Singly ss → agree s₀ k ss ≡ Ok tt → All (LikeFirst s₀) ss
 unfolding agree
 each_agrees s₀ k [] r h = tt
 each_agrees s₀ k (s ∷ ss) r h = (
@@ -75,7 +75,7 @@ each_agrees s₀ k (s ∷ ss) r h = (
 )
 
 -- every track of an accepted set is like its track 0
-pub all_alike : (ss : List (List ℕ)) → set_ruling ss ≡ Holds → All (LikeFirst (track0 ss)) ss
+pub all_alike : (ss : List (List ℕ)) → set_ruling ss ≡ Ok tt → All (LikeFirst (track0 ss)) ss
 unfolding set_ruling
 all_alike [] h = tt
 all_alike (s ∷ ss) h =
@@ -83,7 +83,7 @@ all_alike (s ∷ ss) h =
     ((r.0, refl, refl, refl), each_agrees s 1 ss r.1 (then_second (rulings 0 (s ∷ ss)) (agree s 1 ss) h))
 
 -- a choice below the number of tracks names a track like track 0
-chooses : (ss : List (List ℕ)) → set_ruling ss ≡ Holds → (i : ℕ) → i < length ss
+chooses : (ss : List (List ℕ)) → set_ruling ss ≡ Ok tt → (i : ℕ) → i < length ss
     → Chooses ss (timescale (track0 ss)) (boundaries (track0 ss)) i
 chooses ss h i l =
     let n = below ss i l in
@@ -98,16 +98,16 @@ first_half ss plan h p =
     (all_map (λ i. i < length ss) (Chooses ss (timescale (track0 ss)) (boundaries (track0 ss))) plan (chooses ss h) p.0.1)
 
 -- a bundle that is accepted holds an accepted set
-pub accepted_set : (b : List ℕ) → bundle_ruling b ≡ Holds → set_ruling (tracks b) ≡ Holds
+pub accepted_set : (b : List ℕ) → bundle_ruling b ≡ Ok tt → set_ruling (tracks b) ≡ Ok tt
 unfolding bundle_ruling
 accepted_set b h =
     then_second (rule24 b) (set_ruling (tracks b)) (then_second (rule1 (length b)) (rule24 b then set_ruling (tracks b)) h)
 
 -- the first half for a bundle
-pub first_half_bundle : (b plan : List ℕ) → bundle_ruling b ≡ Holds → Plan (tracks b) plan
+pub first_half_bundle : (b plan : List ℕ) → bundle_ruling b ≡ Ok tt → Plan (tracks b) plan
     → play (tracks b) plan ≡ passed (take (length plan + 1) (boundaries (track0 (tracks b))))
 first_half_bundle b plan h p = first_half (tracks b) plan (accepted_set b h) p
 
 -- never stuck: no plan of an accepted set is
-pub never_stuck : (ss : List (List ℕ)) (plan : List ℕ) → set_ruling ss ≡ Holds → Plan ss plan → play ss plan ≡ stuck → ⊥
+pub never_stuck : (ss : List (List ℕ)) (plan : List ℕ) → set_ruling ss ≡ Ok tt → Plan ss plan → play ss plan ≡ stuck → ⊥
 never_stuck ss plan h p q = subst Passes (sym (first_half ss plan h p) ∙ q) tt

@@ -14,8 +14,7 @@ use Rattle.rules.specs.declared.Entry.{Entry}
 use Rattle.rules.specs.Boxes.{part, sized, look_at, look, on_look, inside, Forest, end, bad, node, within, grow, forest, tops, boxes, places_of, head_of, size_of, kind_of}
 use Rattle.rules.specs.declared.Path.{Path}
 use Rattle.rules.specs.declared.Path.TheVariants.{Flat}
-use Rattle.rules.specs.declared.Inside.{Inside}
-use Rattle.rules.specs.declared.Inside.TheVariants.{Leaf, Container}
+use Rattle.std.specs.Prelude.{Option, None, Some}
 use Rattle.rules.specs.declared.Look.{Look}
 use Rattle.rules.specs.declared.Look.TheVariants.{Nothing, Short, Small, Beyond, Good}
 use Rattle.rules.specs.declared.Seen.{Seen}
@@ -141,9 +140,9 @@ sprout g r p s at l =
     (r (at + z)))
 
 -- equal insides, whichever way they are grown
-within_same : (g r : Path → List ℕ → Forest) (i : Inside) (t : List ℕ) → ((q : Path) → g q t ≡ r q t) → within g i t ≡ within r i t
-within_same g r Leaf t e = refl
-within_same g r (Container q) t e = e q
+within_same : (g r : Path → List ℕ → Forest) (i : Option Path) (t : List ℕ) → ((q : Path) → g q t ≡ r q t) → within g i t ≡ within r i t
+within_same g r None t e = refl
+within_same g r (Some q) t e = e q
 
 -- forests that agree on what is inside a box and on what is after it make equal forests
 sprout_same :

@@ -10,7 +10,7 @@ pub mod Samples
 pub mod Stuck
 pub mod First
 pub mod Tiling
-pub mod Misframed
+pub mod Unframed
 pub mod Jobs
 pub mod Untracked
 pub mod Numbered

@@ -4,7 +4,7 @@ use mathlib.Core.Bool.{Bool, true, false}
 use mathlib.Core.List.{List, [], ◌∷◌}
 use Prim.Native.Nat.{ℕ, ◌+◌}
 use Rattle.rules.specs.Refusals.{member, among}
-use Rattle.rules.specs.Rules.{◌then◌, must, of_track, moved}
+use Rattle.rules.specs.Rules.{◌then◌, must, of_track, moved, Rule, breaks}
 use Rattle.rules.specs.Boxes.{kids}
 use Rattle.rules.specs.Counts.{seen, one_of, at_most_one_of, some_of, counted, counts, counts_if}
 use Rattle.rules.specs.Fields.{Form, body}
@@ -12,25 +12,24 @@ use Rattle.rules.specs.declared.Entry.{Entry}
 use Rattle.rules.specs.declared.Entry.TheVariants.{Nothing, One, AtMostOne, OneOrMore, OneInAll}
 use Rattle.rules.specs.declared.Seen.{Seen}
 use Rattle.rules.specs.declared.Seen.TheVariants.{Never, Once, Twice}
-use Rattle.rules.specs.declared.Rule.{Rule}
-use Rattle.rules.specs.declared.Rule.TheVariants.{Holds, Breaks}
+use Rattle.std.specs.Prelude.{Ok, Err}
 use Rattle.rules.proofs.Members.{member_among, not_both_lem}
 
 -- a rule that, where it breaks, gives a number of a list
 pub record Numbered (ns : List ℕ) (r : Rule) : Type 0 where
-  pub told : (n t p : ℕ) → r ≡ Breaks n t p → member n ns ≡ true
+  pub told : (n t p : ℕ) → r ≡ breaks n t p → member n ns ≡ true
 
 -- the same by the rule's cases
 abbrev pub Told : List ℕ → Rule → Type 0
-Told ns Holds = Unit {0}
-Told ns (Breaks n t p) = member n ns ≡ true
+Told ns (Ok u) = Unit {0}
+Told ns (Err e) = member e.number ns ≡ true
 
 pub of_told : (ns : List ℕ) (r : Rule) → Told ns r → Numbered ns r
 of_told ns r c = record { told = λ n t p e. subst (Told ns) e c }
 
 pub to_told : (ns : List ℕ) (r : Rule) → Numbered ns r → Told ns r
-to_told ns Holds h = tt
-to_told ns (Breaks n t p) h = h.told n t p refl
+to_told ns (Ok u) h = tt
+to_told ns (Err e) h = h.told e.number e.track e.place refl
 
 -- a longer list
 pub wider : (ns ms : List ℕ) (r : Rule) → among ns ms ≡ true → Numbered ns r → Numbered ms r
@@ -39,43 +38,43 @@ wider ns ms r w h = record { told = λ n t p e. member_among n ns ms (h.told n t
 -- how rules are put together
 pub n_then : {ns : List ℕ} (r q : Rule) → Numbered ns r → Numbered ns q → Numbered ns (r then q)
 unfolding ◌then◌
-n_then Holds q h k = k
-n_then (Breaks n t p) q h k = h
+n_then (Ok u) q h k = k
+n_then (Err e) q h k = h
 
 pub n_must : {ns : List ℕ} (b : Bool) (n p : ℕ) → member n ns ≡ true → Numbered ns (must b n p)
 unfolding must
-n_must {ns} true n p m = of_told ns Holds tt
-n_must {ns} false n p m = of_told ns (Breaks n 0 p) m
+n_must {ns} true n p m = of_told ns (Ok tt) tt
+n_must {ns} false n p m = of_told ns (breaks n 0 p) m
 
-pub n_holds : {ns : List ℕ} → Numbered ns Holds
-n_holds {ns} = of_told ns Holds tt
+pub n_holds : {ns : List ℕ} → Numbered ns (Ok tt)
+n_holds {ns} = of_told ns (Ok tt) tt
 
 pub n_moved : {ns : List ℕ} (b : ℕ) (r : Rule) → Numbered ns r → Numbered ns (moved b r)
 unfolding moved
-n_moved b Holds h = h
-n_moved {ns} b (Breaks n t p) h = of_told ns (Breaks n t (b + p)) (to_told ns (Breaks n t p) h)
+n_moved b (Ok u) h = h
+n_moved {ns} b (Err e) h = of_told ns (breaks e.number e.track (b + e.place)) (to_told ns (Err e) h)
 
 pub n_track : {ns : List ℕ} (k : ℕ) (r : Rule) → Numbered ns r → Numbered ns (of_track k r)
 unfolding of_track
-n_track k Holds h = h
-n_track {ns} k (Breaks n t p) h = of_told ns (Breaks n k p) (to_told ns (Breaks n t p) h)
+n_track k (Ok u) h = h
+n_track {ns} k (Err e) h = of_told ns (breaks e.number k e.place) (to_told ns (Err e) h)
 
 -- counts and bodies
 n_one_of : {ns : List ℕ} (n c : ℕ) (v : Seen) → member n ns ≡ true → Numbered ns (one_of n c v)
 unfolding one_of
-n_one_of {ns} n c Never m = of_told ns (Breaks n 0 c) m
+n_one_of {ns} n c Never m = of_told ns (breaks n 0 c) m
 n_one_of n c (Once a) m = n_holds
-n_one_of {ns} n c (Twice a b) m = of_told ns (Breaks n 0 b) m
+n_one_of {ns} n c (Twice a b) m = of_told ns (breaks n 0 b) m
 
 n_at_most : {ns : List ℕ} (n : ℕ) (v : Seen) → member n ns ≡ true → Numbered ns (at_most_one_of n v)
 unfolding at_most_one_of
 n_at_most n Never m = n_holds
 n_at_most n (Once a) m = n_holds
-n_at_most {ns} n (Twice a b) m = of_told ns (Breaks n 0 b) m
+n_at_most {ns} n (Twice a b) m = of_told ns (breaks n 0 b) m
 
 n_some_of : {ns : List ℕ} (n c : ℕ) (v : Seen) → member n ns ≡ true → Numbered ns (some_of n c v)
 unfolding some_of
-n_some_of {ns} n c Never m = of_told ns (Breaks n 0 c) m
+n_some_of {ns} n c Never m = of_told ns (breaks n 0 c) m
 n_some_of n c (Once a) m = n_holds
 n_some_of n c (Twice a b) m = n_holds
 
@@ -103,8 +102,8 @@ unfolding body
 n_body n f m at w = n_must _ n at w
 
 -- a number that isn't one of a rule's own comes from what follows it
-pub passes_on : (ns : List ℕ) (r q : Rule) (n k p : ℕ) → Numbered ns r → member n ns ≡ false → r then q ≡ Breaks n k p
-    → (r ≡ Holds) × (q ≡ Breaks n k p)
+pub passes_on : (ns : List ℕ) (r q : Rule) (n k p : ℕ) → Numbered ns r → member n ns ≡ false → r then q ≡ breaks n k p
+    → (r ≡ Ok tt) × (q ≡ breaks n k p)
 unfolding ◌then◌
-passes_on ns Holds q n k p h f e = (refl, e)
-passes_on ns (Breaks a b c) q n k p h f e = absurd (not_both_lem n ns (h.told n k p e) f)
+passes_on ns (Ok u) q n k p h f e = (refl, e)
+passes_on ns (Err x) q n k p h f e = absurd (not_both_lem n ns (h.told n k p e) f)

@@ -6,44 +6,35 @@ use Prim.Native.Nat.{ℕ}
 use lib.ListN.{length}
 use Rattle.rules.specs.Refusals.{member, among, length_numbers, framing_numbers, order_numbers, header_numbers, shape_numbers, timing_numbers}
 use Rattle.rules.specs.Refusals.{front_numbers, track_numbers}
-use Rattle.rules.specs.Rules.{◌then◌, must}
+use Rattle.rules.specs.Rules.{◌then◌, must, Framing, Rule, breaks}
 use Rattle.rules.specs.Boxes.{Box, boxes}
 use Rattle.rules.specs.Framing.{framed, framing_rule, rules_of_framing}
 use Rattle.rules.specs.Order.{step6, on_stepped, order_from, rule6}
 use Rattle.rules.specs.Header.{rule7, rule8ftyp, rule8, rule9, rule10, rule11, rule12, rule13, rules_of_values, header_rules}
 use Rattle.rules.specs.Chunk.{rule14, rule15runs, rule15, rule16runs, rule16, rule17, rule18, shape, rule19, rule20, opens, rule21, rule22runs, rule22, timing}
 use Rattle.rules.specs.Track.{rule1, rules_of_header, header_of, chunks, shape_at, timing_at, end_at, rules_of_chunks, ruling}
-use Rattle.rules.specs.declared.Ftyp.{Ftyp}
-use Rattle.rules.specs.declared.Ftyp.TheVariants as ftyp
-use Rattle.rules.specs.declared.Framing.{Framing}
-use Rattle.rules.specs.declared.Framing.TheVariants.{Framed, Misframed}
-use Rattle.rules.specs.declared.Previous.{Previous}
-use Rattle.rules.specs.declared.Previous.TheVariants.{Unset, End}
+use Rattle.std.specs.Prelude.{Option, None, Some, Ok, Err}
 use Rattle.rules.specs.declared.Stage.{Stage}
 use Rattle.rules.specs.declared.Stage.TheVariants.{Start, Typed, Headed, Halved, Paired}
-use Rattle.rules.specs.declared.Stepped.{Stepped}
-use Rattle.rules.specs.declared.Stepped.TheVariants.{To, Wrong}
-use Rattle.rules.specs.declared.Rule.{Rule}
-use Rattle.rules.specs.declared.Rule.TheVariants.{Breaks}
 use Rattle.rules.specs.declared.Defaults.{Defaults}
 use Rattle.rules.specs.declared.Header.{Header}
-use Rattle.rules.proofs.Misframed.{FramingNumbered, framing_numbered}
+use Rattle.rules.proofs.Unframed.{FramingNumbered, framing_numbered}
 use Rattle.rules.proofs.Numbered.{Numbered, Told, of_told, wider, n_then, n_must, n_holds, n_moved, n_counts, n_counts_if, n_body}
 
 ruleset joined = (n_then, n_must, n_holds, n_moved, n_counts, n_counts_if, n_body, refl)
 
 -- the header
-n_ftyp : (f : Ftyp) → Numbered header_numbers (rule8ftyp f)
+n_ftyp : (f : Option Bool) → Numbered header_numbers (rule8ftyp f)
 unfolding rule8ftyp member
-n_ftyp (ftyp.Branded b) = n_holds
-n_ftyp ftyp.Wrong = of_told header_numbers (Breaks 8 0 0) refl
+n_ftyp (Some b) = n_holds
+n_ftyp None = of_told header_numbers (breaks 8 0 0) refl
 
-n_brand : (f : Ftyp) → Numbered header_numbers (rule9 f)
+n_brand : (f : Option Bool) → Numbered header_numbers (rule9 f)
 unfolding rule9 member
-n_brand (ftyp.Branded b) = n_must b 9 0 refl
-n_brand ftyp.Wrong = n_holds
+n_brand (Some b) = n_must b 9 0 refl
+n_brand None = n_holds
 
-n_header : (base : ℕ) (f : Ftyp) (m : List ℕ) → Numbered header_numbers (header_rules base f m)
+n_header : (base : ℕ) (f : Option Bool) (m : List ℕ) → Numbered header_numbers (header_rules base f m)
 unfolding header_rules rule7 rule8 rules_of_values rule10 rule11 rule12 rule13 member
 n_header base f m = search (joined, n_ftyp, n_brand) depth 40 fits 8000
 
@@ -71,7 +62,7 @@ n_shape : (m : List ℕ) (id : ℕ) → Numbered shape_numbers (shape m id)
 unfolding shape rule14 rule15 rule16 rule17 rule18 member
 n_shape m id = search (joined, n_15_runs, n_16_runs) depth 30 fits 5000
 
-n_timing : (m : List ℕ) (d : Defaults) (head payload : ℕ) (prev : Previous) → Numbered timing_numbers (timing m d head payload prev)
+n_timing : (m : List ℕ) (d : Defaults) (head payload : ℕ) (prev : Option ℕ) → Numbered timing_numbers (timing m d head payload prev)
 unfolding timing rule19 rule20 rule21 rule22 member
 n_timing m d head payload prev = search (joined, n_22_runs) depth 30 fits 5000
 
@@ -79,47 +70,47 @@ pub n_shape_at : (s : List ℕ) (h : Header) (x : ℕ) → Numbered shape_number
 unfolding shape_at
 n_shape_at s h x = n_moved x _ (n_shape _ _)
 
-pub n_timing_at : (s : List ℕ) (h : Header) (prev : Previous) (x : ℕ) → Numbered timing_numbers (timing_at s h prev x)
+pub n_timing_at : (s : List ℕ) (h : Header) (prev : Option ℕ) (x : ℕ) → Numbered timing_numbers (timing_at s h prev x)
 unfolding timing_at
 n_timing_at s h prev x = n_moved x _ (n_timing _ _ _ _ _)
 
-pub n_chunks : (s : List ℕ) (h : Header) (prev : Previous) (xs : List ℕ) → Numbered track_numbers (rules_of_chunks s h prev xs)
+pub n_chunks : (s : List ℕ) (h : Header) (prev : Option ℕ) (xs : List ℕ) → Numbered track_numbers (rules_of_chunks s h prev xs)
 unfolding rules_of_chunks among member
 n_chunks s h prev [] = n_holds
 n_chunks s h prev (x ∷ xs) =
     n_then _ _ (wider shape_numbers track_numbers _ refl (n_shape_at s h x))
-    (n_then _ _ (wider timing_numbers track_numbers _ refl (n_timing_at s h prev x)) (n_chunks s h (End (end_at s h x)) xs))
+    (n_then _ _ (wider timing_numbers track_numbers _ refl (n_timing_at s h prev x)) (n_chunks s h (Some (end_at s h x)) xs))
 
 -- behind the track's first chunk: all but 21
 abbrev pub later_numbers : List ℕ
 later_numbers = shape_numbers ++ (19 ∷ 20 ∷ 22 ∷ [])
 
-n_21_later : (m : List ℕ) (d : Defaults) (e : ℕ) → Numbered later_numbers (rule21 m d (End e))
+n_21_later : (m : List ℕ) (d : Defaults) (e : ℕ) → Numbered later_numbers (rule21 m d (Some e))
 unfolding rule21 opens must
 n_21_later m d e = n_holds
 
-n_timing_later : (s : List ℕ) (h : Header) (e x : ℕ) → Numbered later_numbers (timing_at s h (End e) x)
+n_timing_later : (s : List ℕ) (h : Header) (e x : ℕ) → Numbered later_numbers (timing_at s h (Some e) x)
 unfolding timing_at timing rule19 rule20 rule22 member
 n_timing_later s h e x =
     n_moved x _
     (n_then _ _ (n_must _ 19 _ refl)
     (n_then _ _ (n_must _ 20 _ refl) (n_then _ _ (n_21_later _ _ e) (n_then _ _ (n_22_in refl _ _ _ _ _) (n_must _ 22 _ refl)))))
 
-pub n_later : (s : List ℕ) (h : Header) (e : ℕ) (xs : List ℕ) → Numbered later_numbers (rules_of_chunks s h (End e) xs)
+pub n_later : (s : List ℕ) (h : Header) (e : ℕ) (xs : List ℕ) → Numbered later_numbers (rules_of_chunks s h (Some e) xs)
 unfolding rules_of_chunks among member
 n_later s h e [] = n_holds
 n_later s h e (x ∷ xs) =
     n_then _ _ (wider shape_numbers later_numbers _ refl (n_shape_at s h x)) (n_then _ _ (n_timing_later s h e x) (n_later s h (end_at s h x) xs))
 
 -- so 21 is the first chunk's alone
-pub only_first_21 : (s : List ℕ) (h : Header) (e : ℕ) (xs : List ℕ) (t p : ℕ) → rules_of_chunks s h (End e) xs ≡ Breaks 21 t p → ⊥
+pub only_first_21 : (s : List ℕ) (h : Header) (e : ℕ) (xs : List ℕ) (t p : ℕ) → rules_of_chunks s h (Some e) xs ≡ breaks 21 t p → ⊥
 unfolding member
 only_first_21 s h e xs t p b = false≢true ((n_later s h e xs).told 21 t p b)
 
 -- the framing
 n_framing : (f : Framing) → FramingNumbered f → Told framing_numbers (framing_rule f)
-n_framing (Framed n) h = tt
-n_framing (Misframed k p) h = h
+n_framing (Ok n) h = tt
+n_framing (Err e) h = h
 
 -- the order
 n_order : (len : ℕ) (g : Stage) (xs : List Box) → Told order_numbers (order_from len g xs)
@@ -131,10 +122,10 @@ n_order len Halved [] = refl
 n_order len Paired [] = tt
 n_order len g (x ∷ xs) = go (step6 g x.kind) (λ h. n_order len h xs)
   where
-    go : (p : Stepped) → ((h : Stage) → Told order_numbers (order_from len h xs))
-        → Told order_numbers (on_stepped p (λ h. order_from len h xs) (Breaks 6 0 x.at))
-    go (To h) f = f h
-    go Wrong f = refl
+    go : (p : Option Stage) → ((h : Stage) → Told order_numbers (order_from len h xs))
+        → Told order_numbers (on_stepped p (λ h. order_from len h xs) (breaks 6 0 x.at))
+    go (Some h) f = f h
+    go None f = refl
 
 -- the rules of a track, group by group
 pub n_length : (n : ℕ) → Numbered length_numbers (rule1 n)
@@ -166,4 +157,4 @@ n_front ns s q w h =
 
 pub n_ruling : (s : List ℕ) → Numbered track_numbers (ruling s)
 unfolding ruling among member
-n_ruling s = n_front track_numbers s _ refl (n_chunks s (header_of s) Unset (chunks s))
+n_ruling s = n_front track_numbers s _ refl (n_chunks s (header_of s) None (chunks s))

@@ -13,7 +13,7 @@ use borrow.Author.Tests.{eq-eqb}
 use Rattle.rules.specs.Track.{ruling, header_of, Fragment, fragments, fragment_count, timescale, start_at, boundaries}
 use Rattle.rules.specs.Player.{Stretch, Stream, State, piece_at, stretch_at, rules_before_timing, good, stream_of, fits, begin, in_turn, ends_at, goes, after, on_option, step_on, Played, stuck, passed, tick, play_from, first_start, play_streams, play}
 use Rattle.rules.specs.Plans.{All}
-use Rattle.rules.specs.declared.Rule.TheVariants.{Holds}
+use Rattle.std.specs.Prelude.{Ok}
 use Rattle.rules.proofs.Laws.{all_map, beyond, drop_first, drop_rest, map_at, map_none}
 use Rattle.rules.proofs.Boundaries.{Spans, TilesFrom, Tiled, tiles_fewer, tiled, boundaries_length}
 use Rattle.rules.proofs.Stuck.{step_goes, play_step, play_stuck, plan_stuck, play_is_stuck, went_through}
@@ -157,7 +157,7 @@ first_tick ss i plan ts h = go (get_elem? ss i) refl
 -- a choice of a set that names an accepted track with this timescale and these boundaries
 abbrev pub Chooses : List (List ℕ) → ℕ → List ℕ → ℕ → Type 0
 Chooses ss scale bs i =
-    (s : List ℕ) × (get_elem? ss i ≡ some s) × (ruling s ≡ Holds) × (timescale s ≡ scale) × (boundaries s ≡ bs)
+    (s : List ℕ) × (get_elem? ss i ≡ some s) × (ruling s ≡ Ok tt) × (timescale s ≡ scale) × (boundaries s ≡ bs)
 
 -- such a choice fits
 chosen_fits : (ss : List (List ℕ)) (scale a : ℕ) (bs : List ℕ) (n i : ℕ) → Chooses ss scale (a ∷ bs) i
@@ -165,7 +165,7 @@ chosen_fits : (ss : List (List ℕ)) (scale a : ℕ) (bs : List ℕ) (n i : ℕ)
 unfolding stream_of
 chosen_fits ss scale a bs n i c =
     let s = c.0 in
-    let h : rules_before_timing s ≡ Holds = accepted_sound s c.2 in
+    let h : rules_before_timing s ≡ Ok tt = accepted_sound s c.2 in
     let y : Tiled (map (stretch_at s (header_of s)) (fragments s)) (a ∷ bs) = rw c.4 at (tiled s c.2) in
     (stream_of s, map_at stream_of ss i s c.1, (ap good h, c.3, tiles_fewer (map (stretch_at s (header_of s)) (fragments s)) a bs n y))
 
@@ -186,7 +186,7 @@ all_stay P zero i h = tt
 all_stay P (suc n) i h = (h, all_stay P n i h)
 
 -- an accepted track plays through by itself, and passes its boundaries
-pub plays_alone : (ss : List (List ℕ)) (i : ℕ) (s : List ℕ) → get_elem? ss i ≡ some s → ruling s ≡ Holds → 1 ≤ fragment_count s
+pub plays_alone : (ss : List (List ℕ)) (i : ℕ) (s : List ℕ) → get_elem? ss i ≡ some s → ruling s ≡ Ok tt → 1 ≤ fragment_count s
     → play ss (replicate (fragment_count s) i) ≡ passed (boundaries s)
 plays_alone ss i s e r h =
     let n = fragment_count s in

@@ -11,19 +11,16 @@ use borrow.Author.Tests.{ltb-true, ltb-false}
 use Rattle.numbers.specs.Numbers.{when}
 use Rattle.rules.specs.Limits.{byte_limit}
 use Rattle.rules.specs.Refusals.{member, among, apart, length_numbers, framing_numbers, record_numbers, set_numbers, index_numbers, track_numbers, bundle_numbers}
-use Rattle.rules.specs.Rules.{◌then◌, must, on_rule}
+use Rattle.rules.specs.Rules.{◌then◌, must, on_rule, Framing, Rule, breaks}
 use Rattle.rules.specs.Framing.{on_framing, framed}
 use Rattle.rules.specs.Track.{rule1, ruling, fragment_count, timescale, boundaries, refused, accepted, room_for, index, index_outcome, track_outcome}
 use Rattle.rules.specs.Bundle.{Records, none, wrong, track, rule24_from, rule24, tracks, records}
 use Rattle.rules.specs.Set.{same, rule28_from, rule28, agrees, rulings, agree, track0, set_ruling, bundle_ruling, set_outcome}
 use Rattle.rules.specs.Jobs.{Answered, is_accepted, is_refused, no_room}
-use Rattle.rules.specs.declared.Framing.{Framing}
-use Rattle.rules.specs.declared.Framing.TheVariants.{Framed, Misframed}
-use Rattle.rules.specs.declared.Rule.{Rule}
-use Rattle.rules.specs.declared.Rule.TheVariants.{Holds, Breaks}
+use Rattle.std.specs.Prelude.{Ok, Err}
 use Rattle.rules.proofs.Jobs.{zero_accepts}
 use Rattle.rules.proofs.Members.{member_among, member_apart, not_both_lem}
-use Rattle.rules.proofs.Misframed.{FramingNumbered, framing_numbered}
+use Rattle.rules.proofs.Unframed.{FramingNumbered, framing_numbered}
 use Rattle.rules.proofs.Numbered.{Numbered, Told, of_told, wider, n_then, n_must, n_holds, n_track, passes_on}
 use Rattle.rules.proofs.NumbersOfTrack.{n_length, n_ruling}
 
@@ -51,7 +48,7 @@ n_24 : (k : ℕ) (rs : Records) → Told record_numbers (rule24_from k rs)
 unfolding rule24_from member
 n_24 k none = go (eqb k 0)
   where
-    go : (b : Bool) → Told record_numbers (when b (Breaks 24 0 0) Holds)
+    go : (b : Bool) → Told record_numbers (when b (breaks 24 0 0) (Ok tt))
     go true = refl
     go false = tt
 n_24 k (wrong at) = refl
@@ -71,14 +68,14 @@ bundle_numbered b =
     (wider set_numbers bundle_numbers _ refl (n_agree _ 1 _))))
 
 -- so none of them is 0
-pub never_0 : (b : List ℕ) (n k p : ℕ) → bundle_ruling b ≡ Breaks n k p → 1 ≤ n
+pub never_0 : (b : List ℕ) (n k p : ℕ) → bundle_ruling b ≡ breaks n k p → 1 ≤ n
 unfolding member
 never_0 b zero k p e = absurd (not_both_lem 0 bundle_numbers ((bundle_numbered b).told 0 k p e) refl)
 never_0 b (suc n) k p e = omega arith
 
 -- a bundle refused under a number of a set holds tracks that are accepted singly, and is refused as a set
-pub refused_as_set : (b : List ℕ) (n k p : ℕ) → member n set_numbers ≡ true → bundle_ruling b ≡ Breaks n k p
-    → (rulings 0 (tracks b) ≡ Holds) × (set_ruling (tracks b) ≡ Breaks n k p)
+pub refused_as_set : (b : List ℕ) (n k p : ℕ) → member n set_numbers ≡ true → bundle_ruling b ≡ breaks n k p
+    → (rulings 0 (tracks b) ≡ Ok tt) × (set_ruling (tracks b) ≡ breaks n k p)
 unfolding bundle_ruling set_ruling apart member
 refused_as_set b n k p m h =
     let rest = agree (track0 (tracks b)) 1 (drop 1 (tracks b)) in
@@ -101,8 +98,8 @@ by_room ns count scale numbers t = go (ltb (length t) (length numbers)) refl
 -- a rule and then room
 by_rule : (ns : List ℕ) (count scale : ℕ) (numbers t : List ℕ) (r : Rule) → Numbered ns r
     → Answered ns count scale numbers t (on_rule r (λ _. room_for count scale numbers t) (λ n k p. refused n k p t))
-by_rule ns count scale numbers t Holds h = by_room ns count scale numbers t
-by_rule ns count scale numbers t (Breaks n k p) h = is_refused n k p (h.told n k p refl) refl
+by_rule ns count scale numbers t (Ok u) h = by_room ns count scale numbers t
+by_rule ns count scale numbers t (Err e) h = is_refused e.number e.track e.place (h.told e.number e.track e.place refl) refl
 
 -- the index job: the acceptance with the index, a refusal of length or framing, or 23
 pub index_refusals : (s t : List ℕ) → (n : ℕ) × Answered index_numbers n 0 (index s) t (index_outcome s t)
@@ -113,8 +110,8 @@ index_refusals s t = go (leb (length s) byte_limit) (framed s) (framing_numbered
         → (n : ℕ)
         × Answered index_numbers n 0 (index s) t
         (on_rule (must b 1 0) (λ _. on_framing f (λ n. room_for n 0 (index s) t) (λ k p. refused k 0 p t)) (λ k _ p. refused k 0 p t))
-    go true (Framed n) h = (n, by_room index_numbers n 0 (index s) t)
-    go true (Misframed k p) h = (0, is_refused k 0 p (member_among k framing_numbers index_numbers h refl) refl)
+    go true (Ok n) h = (n, by_room index_numbers n 0 (index s) t)
+    go true (Err e) h = (0, is_refused e.number 0 e.place (member_among e.number framing_numbers index_numbers h refl) refl)
     go false f h = (0, is_refused 1 0 0 refl refl)
 
 -- the track job: the acceptance with the boundaries, a refusal of a track, or 23

@@ -11,13 +11,12 @@ use native.Mathlib.Omega.{arith}
 use lib.ListN.{length, drop, get_elem?, get_or, replicate, length-replicate, length-map}
 use lib.Dec.{eqb}
 use borrow.Author.Tests.{eqb-true, eqb-false, eq-eqb}
-use Rattle.rules.specs.Rules.{◌then◌, must, of_track}
+use Rattle.rules.specs.Rules.{◌then◌, must, of_track, Rule, breaks}
 use Rattle.rules.specs.Track.{ruling, fragments, first_moofs, fragment_count, timescale, boundaries}
 use Rattle.rules.specs.Set.{hdlr_at, mdhd_at, handler, same, first_or, rule28_from, rule28, agrees, rulings, agree, track0, set_ruling}
 use Rattle.rules.specs.Player.{passed, play}
 use Rattle.rules.specs.Plans.{All, longest, Comparable, OneStuck, TicksDiffer, ToldApart, Singly, OneKind}
-use Rattle.rules.specs.declared.Rule.{Rule}
-use Rattle.rules.specs.declared.Rule.TheVariants.{Holds, Breaks}
+use Rattle.std.specs.Prelude.{Ok, Err}
 use Rattle.rules.proofs.Laws.{all_at, is_below}
 use Rattle.rules.proofs.Then.{then_holds, must_true}
 use Rattle.rules.proofs.Boundaries.{a_fragment, as_many}
@@ -25,10 +24,10 @@ use Rattle.rules.proofs.Plays.{all_stay, plays_alone, too_long}
 
 -- a refusal with this number, track and place
 abbrev pub Refusal : Rule → ℕ → ℕ → ℕ → Type 0
-Refusal Holds n t p = ⊥
-Refusal (Breaks a b c) n t p = (a ≡ n) × (b ≡ t) × (c ≡ p)
+Refusal (Ok u) n t p = ⊥
+Refusal (Err e) n t p = (e.number ≡ n) × (e.track ≡ t) × (e.place ≡ p)
 
-pub is_refusal : (r : Rule) (n t p : ℕ) → r ≡ Breaks n t p → Refusal r n t p
+pub is_refusal : (r : Rule) (n t p : ℕ) → r ≡ breaks n t p → Refusal r n t p
 is_refusal r n t p e = subst (λ (q : Rule). Refusal q n t p) (sym e) (refl, refl, refl)
 
 -- k is the first number at which a list differs from another
@@ -61,7 +60,7 @@ only_28 last (x ∷ xs) ys ps n t p h = go (eqb (first_or 0 ys) x) h (only_28 (f
     go true y f = f y
     go false y f = sym y.0
 
-itself : (last : ℕ) (xs ps : List ℕ) → rule28_from last xs xs ps ≡ Holds
+itself : (last : ℕ) (xs ps : List ℕ) → rule28_from last xs xs ps ≡ Ok tt
 unfolding rule28_from
 itself last [] ps = refl
 itself last (x ∷ xs) ps =
@@ -165,23 +164,23 @@ named s₀ j (s ∷ ss) n k p h = go (agrees s₀ s) refl h (named s₀ (j + 1) 
         → (Refusal (agree s₀ (j + 1) ss) n k p
         → (i : ℕ) × (s : List ℕ) × (k ≡ j + 1 + i) × (get_elem? ss i ≡ some s) × Difference s₀ s n p)
         → (i : ℕ) × (s' : List ℕ) × (k ≡ j + i) × (get_elem? (s ∷ ss) i ≡ some s') × Difference s₀ s' n p
-    go Holds e y f = let q = f y in (suc q.0, q.1, omega (arith, q.2), q.3, q.4)
-    go (Breaks a b c) e y f =
-        (0, s, omega (arith, y.1), refl, differs s₀ s n b p (rw e (y.0, refl, y.2)))
+    go (Ok u) e y f = let q = f y in (suc q.0, q.1, omega (arith, q.2), q.3, q.4)
+    go (Err q) e y f =
+        (0, s, omega (arith, y.1), refl, differs s₀ s n q.track p (rw e (y.0, refl, y.2)))
 
 -- tracks accepted one by one have no broken ruling
-pub all_hold : (k : ℕ) (ss : List (List ℕ)) → Singly ss → rulings k ss ≡ Holds
+pub all_hold : (k : ℕ) (ss : List (List ℕ)) → Singly ss → rulings k ss ≡ Ok tt
 unfolding rulings of_track
 all_hold k [] h = refl
 all_hold k (s ∷ ss) h =
     then_holds (rulings (k + 1) ss) (ap (of_track k) h.0) ∙ all_hold (k + 1) ss h.1
 
 -- a set of tracks accepted one by one that is refused: track 0, and the track that the refusal names
-pub told_apart : (ss : List (List ℕ)) (n k p : ℕ) → Singly ss → set_ruling ss ≡ Breaks n k p
+pub told_apart : (ss : List (List ℕ)) (n k p : ℕ) → Singly ss → set_ruling ss ≡ breaks n k p
     → (s : List ℕ) × (get_elem? ss 0 ≡ some (track0 ss)) × (get_elem? ss k ≡ some s) × Difference (track0 ss) s n p
 unfolding set_ruling agree
 told_apart [] n k p a h =
-    absurd (is_refusal Holds n k p (sym (then_holds Holds (all_hold 0 [] tt)) ∙ h))
+    absurd (is_refusal (Ok tt) n k p (sym (then_holds (Ok tt) (all_hold 0 [] tt)) ∙ h))
 told_apart (s₀ ∷ ss) n k p a h =
     let q = named s₀ 1 ss n k p
     (is_refusal (agree s₀ 1 ss) n k p (sym (then_holds (agree s₀ 1 ss) (all_hold 0 (s₀ ∷ ss) a)) ∙ h)) in
@@ -217,9 +216,9 @@ stays_on P ss k i h = all_stay P (max (fragment_count (track0 ss)) (fragment_cou
 -- as long a plan as a track has fragments runs through
 through : (ss : List (List ℕ)) → Singly ss → (i : ℕ) (s : List ℕ) (n : ℕ) → get_elem? ss i ≡ some s → 1 ≤ n
     → n ≡ fragment_count s → play ss (replicate n i) ≡ passed (boundaries s)
-through ss a i s n e l q = rw q (plays_alone ss i s e (all_at (λ t. ruling t ≡ Holds) ss i s a e) (omega (arith, l, q)))
+through ss a i s n e l q = rw q (plays_alone ss i s e (all_at (λ t. ruling t ≡ Ok tt) ss i s a e) (omega (arith, l, q)))
 
-module _ (ss : List (List ℕ)) (n k p : ℕ) (a : Singly ss) (h : set_ruling ss ≡ Breaks n k p) where
+module _ (ss : List (List ℕ)) (n k p : ℕ) (a : Singly ss) (h : set_ruling ss ≡ breaks n k p) where
   -- the track that the refusal names, and how it differs from track 0
   s : List ℕ
   s = (told_apart ss n k p a h).0
@@ -249,7 +248,7 @@ module _ (ss : List (List ℕ)) (n k p : ℕ) (a : Singly ss) (h : set_ruling ss
   a_step : 1 ≤ long
   unfolding long
   a_step =
-      let f = a_fragment (track0 ss) (all_at (λ t. ruling t ≡ Holds) ss 0 (track0 ss) a at_0) in
+      let f = a_fragment (track0 ss) (all_at (λ t. ruling t ≡ Ok tt) ss 0 (track0 ss) a at_0) in
       omega (arith, f)
 
   no_longer_than : long ≤ longest ss
@@ -302,7 +301,7 @@ module _ (ss : List (List ℕ)) (n k p : ℕ) (a : Singly ss) (h : set_ruling ss
   )
 
 -- under 27: the refusal names a track of the set, the two plans compare, one of them runs through and the other gets stuck
-pub second_half_27 : (ss : List (List ℕ)) (k p : ℕ) → Singly ss → set_ruling ss ≡ Breaks 27 k p
+pub second_half_27 : (ss : List (List ℕ)) (k p : ℕ) → Singly ss → set_ruling ss ≡ breaks 27 k p
     → (k < length ss) × Comparable ss (stays ss k 0) (stays ss k k) × OneStuck (play ss (stays ss k 0)) (play ss (stays ss k k))
 second_half_27 ss k p a h = (names_a_track ss 27 k p a h, stays_compare ss 27 k p a h, go (difference ss 27 k p a h))
   where
@@ -313,7 +312,7 @@ second_half_27 ss k p a h = (names_a_track ss 27 k p a h, stays_compare ss 27 k 
     go (of28 n c d w) = let z : ⊥ = omega (arith, n) in absurd z
 
 -- under 28: the refusal names a track of the set, the two plans compare, both run and their ticks differ
-pub second_half_28 : (ss : List (List ℕ)) (k p : ℕ) → Singly ss → set_ruling ss ≡ Breaks 28 k p
+pub second_half_28 : (ss : List (List ℕ)) (k p : ℕ) → Singly ss → set_ruling ss ≡ breaks 28 k p
     → (k < length ss) × Comparable ss (stays ss k 0) (stays ss k k) × TicksDiffer (play ss (stays ss k 0)) (play ss (stays ss k k))
 second_half_28 ss k p a h = (names_a_track ss 28 k p a h, stays_compare ss 28 k p a h, go (difference ss 28 k p a h))
   where
@@ -324,7 +323,7 @@ second_half_28 ss k p a h = (names_a_track ss 28 k p a h, stays_compare ss 28 k 
     go (of28 n c d w) = by_boundary ss 28 k p a h c d
 
 -- and where 28 stands: at the first `moof` of the fragment whose boundary is the first that differs, in the track that the refusal names
-pub place_28 : (ss : List (List ℕ)) (k p : ℕ) → Singly ss → set_ruling ss ≡ Breaks 28 k p
+pub place_28 : (ss : List (List ℕ)) (k p : ℕ) → Singly ss → set_ruling ss ≡ breaks 28 k p
     → (s : List ℕ) × (get_elem? ss k ≡ some s) × StandsAt28 (track0 ss) s p
 place_28 ss k p a h = let y = told_apart ss 28 k p a h in (y.0, y.2, go y.0 y.3)
   where
@@ -336,13 +335,13 @@ place_28 ss k p a h = let y = told_apart ss 28 k p a h in (y.0, y.2, go y.0 y.3)
 
 -- the second half: tracks accepted singly and refused as a set under 27 or 28; the plans stay on track 0 and on the track that the refusal names
 pub second_half : (ss : List (List ℕ)) (k p : ℕ) → Singly ss
-    → (set_ruling ss ≡ Breaks 27 k p) ⊎ (set_ruling ss ≡ Breaks 28 k p) → ToldApart play ss (stays ss k 0) (stays ss k k)
+    → (set_ruling ss ≡ breaks 27 k p) ⊎ (set_ruling ss ≡ breaks 28 k p) → ToldApart play ss (stays ss k 0) (stays ss k k)
 second_half ss k p a (inl h) = let y = second_half_27 ss k p a h in (y.1, inl y.2)
 second_half ss k p a (inr h) = let y = second_half_28 ss k p a h in (y.1, inr y.2)
 
 -- tracks accepted singly, of one handler and one timescale, are refused as a set under 27 or 28 and no other number
 pub only_27_or_28 : (ss : List (List ℕ)) (n k p : ℕ) → Singly ss
-    → OneKind ss → set_ruling ss ≡ Breaks n k p
+    → OneKind ss → set_ruling ss ≡ breaks n k p
     → (n ≡ 27) ⊎ (n ≡ 28)
 only_27_or_28 ss n k p a o h = go (told_apart ss n k p a h).0 (told_apart ss n k p a h).2 (told_apart ss n k p a h).3
   where
@@ -354,10 +353,10 @@ only_27_or_28 ss n k p a o h = go (told_apart ss n k p a h).0 (told_apart ss n k
 
 -- so of one handler and one timescale: any refusal of the set at all gives the two plans
 pub second_half_refused : (ss : List (List ℕ)) (n k p : ℕ) → Singly ss
-    → OneKind ss → set_ruling ss ≡ Breaks n k p
+    → OneKind ss → set_ruling ss ≡ breaks n k p
     → ToldApart play ss (stays ss k 0) (stays ss k k)
 second_half_refused ss n k p a o h = go (only_27_or_28 ss n k p a o h)
   where
     go : (n ≡ 27) ⊎ (n ≡ 28) → ToldApart play ss (stays ss k 0) (stays ss k k)
-    go (inl e) = second_half ss k p a (inl (h ∙ ap (λ (m : ℕ). Breaks m k p) e))
-    go (inr e) = second_half ss k p a (inr (h ∙ ap (λ (m : ℕ). Breaks m k p) e))
+    go (inl e) = second_half ss k p a (inl (h ∙ ap (λ (m : ℕ). breaks m k p) e))
+    go (inr e) = second_half ss k p a (inr (h ∙ ap (λ (m : ℕ). breaks m k p) e))

@@ -12,7 +12,7 @@ use Rattle.rules.specs.Track.{ruling, header_of, chunks, start_at, end_at, sync_
 use Rattle.rules.specs.Set.{track0, set_ruling}
 use Rattle.rules.specs.Player.{Stretch, piece_at, stretch_at, clock_after}
 use Rattle.rules.specs.Plans.{All, Plan}
-use Rattle.rules.specs.declared.Rule.TheVariants.{Holds}
+use Rattle.std.specs.Prelude.{Ok}
 use Rattle.rules.proofs.Laws.{not_on, not_off, all_at, all_map, below, is_below, map_at}
 use Rattle.rules.proofs.Walk.{DataBox}
 use Rattle.rules.proofs.Fragments.{chunks_of, chunks_in, last_of, last_chunk, all_chunks, others_non_sync, of_each}
@@ -63,7 +63,7 @@ RunsOver s j f bs =
     × All (WholeSamples s) (chunks_of f)
 
 -- the j-th fragment of an accepted track runs over the track's boundaries
-pub fragment_at : (s : List ℕ) → ruling s ≡ Holds → (j : ℕ) (f : Fragment) → get_elem? (fragments s) j ≡ some f → RunsOver s j f (boundaries s)
+pub fragment_at : (s : List ℕ) → ruling s ≡ Ok tt → (j : ℕ) (f : Fragment) → get_elem? (fragments s) j ≡ some f → RunsOver s j f (boundaries s)
 unfolding piece_at stretch_at fragment_count
 fragment_at s r j f e =
     let l = is_below (fragments s) j f e in
@@ -96,7 +96,7 @@ each_chunk : (P : ℕ → Type 0) (s : List ℕ) (j : ℕ) (f : Fragment) → Al
 each_chunk P s j f a e =
     all_at (λ y. All P (chunks_of y)) (fragments s) j f (of_each P (fragments s) (subst (All P) (sym (no_chunk_missing s)) a)) e
 
-module _ (ss : List (List ℕ)) (plan : List ℕ) (h : set_ruling ss ≡ Holds) (p : Plan ss plan) where
+module _ (ss : List (List ℕ)) (plan : List ℕ) (h : set_ruling ss ≡ Ok tt) (p : Plan ss plan) where
   -- the ticks that the plan passes
   abbrev pub ticked : List ℕ
   ticked = take (length plan + 1) (boundaries (track0 ss))

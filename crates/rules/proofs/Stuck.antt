@@ -13,8 +13,8 @@ use Rattle.rules.specs.Chunk.{runs_in, defaults_in, first_flags, sync_in, durati
 use Rattle.rules.specs.Track.{header_of, Fragment, fragments, fragment_count, timescale, start_at, end_at, sync_at}
 use Rattle.rules.specs.Player.{Piece, Stretch, Stream, State, fed_at, piece_at, stretch_at, rules_before_timing, good, stream_of, fits, begin, in_turn, clock_after}
 use Rattle.rules.specs.Player.{ends_at, goes, after, take?, step_on, stuck, tick, play_from, first_start, play_streams, play}
-use Rattle.rules.specs.declared.Rule.{Rule}
-use Rattle.rules.specs.declared.Rule.TheVariants.{Holds, Breaks}
+use Rattle.rules.specs.Rules.{Rule, breaks}
+use Rattle.std.specs.Prelude.{Ok, Err}
 use Rattle.rules.proofs.Laws.{not_on, no_and, and_first, and_second, and_both, all_on, each_on, beyond, map_at, map_none}
 use Rattle.rules.proofs.Fragments.{chunks_of, last_of, last_chunk}
 use Rattle.rules.proofs.Samples.{EachOf, SomeOf, whole_sample, not_next, past_till, mdat_end, chunk_fed, samples_whole, unfed}
@@ -87,7 +87,7 @@ stuck_missing_fragment g s h =
     refuses g s (λ f e. absurd (none-ne-some f (sym (beyond (fragments s) g.number h) ∙ e)))
 
 -- a track that breaks one of the rules before timing: the step is stuck
-pub stuck_broken_rule : (g : State) (s : List ℕ) (n t p : ℕ) → rules_before_timing s ≡ Breaks n t p → step_on g (stream_of s) ≡ none
+pub stuck_broken_rule : (g : State) (s : List ℕ) (n t p : ℕ) → rules_before_timing s ≡ breaks n t p → step_on g (stream_of s) ≡ none
 unfolding goes stream_of
 stuck_broken_rule g s n t p h = refuses g s (λ f _. rw h)
 
@@ -202,7 +202,7 @@ went_in_turn o s (x ∷ xs) h =
 abbrev pub StepReady : State → List ℕ → Fragment → Type 0
 StepReady g s f =
     Meets g s f
-    × (rules_before_timing s ≡ Holds)
+    × (rules_before_timing s ≡ Ok tt)
     × UnsetOr g.scale (timescale s)
     × (non_sync s f.first ≡ false)
     × InTurn g.clock s (chunks_of f)
@@ -291,9 +291,9 @@ pub went_through : (g : State) (s : List ℕ) (p : Stretch) → step_on g (strea
 unfolding goes stream_of stretch_at
 went_through g s p h = go (get_elem? (fragments s) g.number) refl
   where
-    kept : (r : Rule) → good r ≡ true → r ≡ Holds
-    kept Holds q = refl
-    kept (Breaks n t y) q = absurd (false≢true q)
+    kept : (r : Rule) → good r ≡ true → r ≡ Ok tt
+    kept (Ok u) q = refl
+    kept (Err e) q = absurd (false≢true q)
 
     by : (f : Fragment) → Meets g s f → (t : Bool) → goes g (stream_of s) (stretch_at s (header_of s) f) ≡ t → t ≡ true
     by f e true q = refl

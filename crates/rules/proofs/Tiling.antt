@@ -17,7 +17,7 @@ use Rattle.rules.specs.Fields.{field, box_flags}
 use Rattle.rules.specs.Chunk.{count_of, bytes_of, sum_to, run_bytes, bytes_in, runs_in, defaults_in, offset_is, placed, rule22runs, rule22}
 use Rattle.rules.specs.Track.{mdat_at}
 use Rattle.rules.specs.Player.{run_start, fed_at}
-use Rattle.rules.specs.declared.Rule.TheVariants.{Holds}
+use Rattle.std.specs.Prelude.{Ok}
 use Rattle.rules.specs.declared.Defaults.{Defaults}
 use Rattle.rules.specs.declared.Header.{Header}
 use Rattle.rules.proofs.Laws.{not_on}
@@ -48,7 +48,7 @@ run_start_lem x m first e before r p b = go (has (box_flags m r) 0x1) p
 
 -- runs that rule 22 places, whose sizes end inside the data box: every sample is whole
 tiled_samples : (x : ℕ) (m : List ℕ) (d : Defaults) (first : Bool) (e : ℕ) (before : ℤ) (next till : ℕ) (rs : List ℕ)
-    → rule22runs m d first e rs ≡ Holds → next ≡ x + e → (first ≡ false → before ≡ pos (x + e))
+    → rule22runs m d first e rs ≡ Ok tt → next ≡ x + e → (first ≡ false → before ≡ pos (x + e))
     → next + bytes_in m d rs ≤ till → EverySample (whole_sample till) x m d before next rs
 unfolding rule22runs bytes_in run_bytes
 tiled_samples x m d first e before next till [] h n b i = tt
@@ -74,7 +74,7 @@ tiled_samples x m d first e before next till (r ∷ rs) h n b i = (
 
 -- a chunk that rule 22 accepts feeds the player
 pub fed_at_lem : (s : List ℕ) (h : Header) (x : ℕ)
-    → rule22 (whole s x) h.defaults (head_of s (mdat_at s x)) (size_of s (mdat_at s x) - head_of s (mdat_at s x)) ≡ Holds
+    → rule22 (whole s x) h.defaults (head_of s (mdat_at s x)) (size_of s (mdat_at s x) - head_of s (mdat_at s x)) ≡ Ok tt
     → DataBox s x → fed_at s h x ≡ true
 unfolding fed_at rule22 mdat_at
 fed_at_lem s h x r b =

@@ -3,7 +3,7 @@ use mathlib.Core.Path.{◌≡◌, refl, ap, subst, ◌∙◌}
 use mathlib.Core.Bool.{Bool, true, false}
 use mathlib.Core.List.{List, [], ◌∷◌}
 use Prim.Native.Nat.{ℕ, ◌≤◌}
-use Rattle.rules.specs.Rules.{◌then◌, must, PlacedUpTo}
+use Rattle.rules.specs.Rules.{◌then◌, must, PlacedUpTo, Rule, breaks}
 use Rattle.rules.specs.Boxes.{kids}
 use Rattle.rules.specs.Counts.{seen, one_of, at_most_one_of, some_of, counted, counts}
 use Rattle.rules.specs.Chunk.{rule16runs, rule16, rule17, rule18, rule19, rule21, rule22runs, rule22}
@@ -12,30 +12,28 @@ use Rattle.rules.specs.declared.Entry.TheVariants.{Nothing, One, AtMostOne, OneO
 use Rattle.rules.specs.declared.Seen.{Seen}
 use Rattle.rules.specs.declared.Seen.TheVariants.{Never, Once, Twice}
 use Rattle.rules.specs.declared.Defaults.{Defaults}
-use Rattle.rules.specs.declared.Previous.{Previous}
-use Rattle.rules.specs.declared.Rule.{Rule}
-use Rattle.rules.specs.declared.Rule.TheVariants.{Holds, Breaks}
+use Rattle.std.specs.Prelude.{Option, Ok, Err}
 
 -- a rule that holds, or breaks with track 0
 abbrev pub Untracked : Rule → Type 0
-Untracked Holds = Unit {0}
-Untracked (Breaks n t p) = t ≡ 0
+Untracked (Ok u) = Unit {0}
+Untracked (Err e) = e.track ≡ 0
 
 -- what is so of rules is so of the first broken one; and what is so where a test holds and where it breaks is so of it
 module _ (P : Rule → Type 0) where
   pub then_is : (r q : Rule) → P r → P q → P (r then q)
   unfolding ◌then◌
-  then_is Holds q h k = k
-  then_is (Breaks n t p) q h k = h
+  then_is (Ok u) q h k = k
+  then_is (Err e) q h k = h
 
-  pub must_is : (b : Bool) (n p : ℕ) → P Holds → P (Breaks n 0 p) → P (must b n p)
+  pub must_is : (b : Bool) (n p : ℕ) → P (Ok tt) → P (breaks n 0 p) → P (must b n p)
   unfolding must
   must_is true n p h k = h
   must_is false n p h k = k
 
 -- a broken one, at a place up to n
-pub breaks_at_0 : (n : ℕ) {r : Rule} {k t p : ℕ} → Untracked r → PlacedUpTo n r → r ≡ Breaks k t p → (r ≡ Breaks k 0 p) × (p ≤ n)
-breaks_at_0 n {r} {k} {t} {p} u low e = (e ∙ ap (λ (i : ℕ). Breaks k i p) (subst Untracked e u), subst (PlacedUpTo n) e low)
+pub breaks_at_0 : (n : ℕ) {r : Rule} {k t p : ℕ} → Untracked r → PlacedUpTo n r → r ≡ breaks k t p → (r ≡ breaks k 0 p) × (p ≤ n)
+breaks_at_0 n {r} {k} {t} {p} u low e = (e ∙ ap (λ (i : ℕ). breaks k i p) (subst Untracked e u), subst (PlacedUpTo n) e low)
 
 -- a test, and one before other rules
 test : (b : Bool) (n p : ℕ) → Untracked (must b n p)
@@ -73,7 +71,7 @@ module _ (m : List ℕ) where
   runs_16 [] = tt
   runs_16 (r ∷ rs) = next _ 16 r _ (runs_16 rs)
 
-  pub before_sums_untracked : (id : ℕ) (prev : Previous) → Untracked (rule16 m then rule17 m id then rule18 m then rule19 m prev)
+  pub before_sums_untracked : (id : ℕ) (prev : Option ℕ) → Untracked (rule16 m then rule17 m id then rule18 m then rule19 m prev)
   unfolding rule16 rule17 rule18 rule19
   before_sums_untracked id prev = then_is Untracked _ _ (next _ 16 _ _ (runs_16 _)) (next _ 17 _ _ (next _ 18 _ _ (test _ 19 _)))
 
@@ -82,6 +80,6 @@ module _ (m : List ℕ) where
   runs_22 d first e [] = tt
   runs_22 d first e (r ∷ rs) = next _ 22 r _ (runs_22 d false _ rs)
 
-  pub of_sums_untracked : (d : Defaults) (head payload : ℕ) (prev : Previous) → Untracked (rule21 m d prev then rule22 m d head payload)
+  pub of_sums_untracked : (d : Defaults) (head payload : ℕ) (prev : Option ℕ) → Untracked (rule21 m d prev then rule22 m d head payload)
   unfolding rule21 rule22
   of_sums_untracked d head payload prev = next _ 21 _ _ (then_is Untracked _ _ (runs_22 _ true _ _) (test _ 22 _))

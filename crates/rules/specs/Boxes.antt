@@ -1,11 +1,9 @@
 -- Boxes in bytes: one header, the forest of boxes in a slice, runs of siblings, the boxes in a container.
-use Rattle.std.specs.Prelude.{ℕ, zero, suc, ◌+◌, ◌-◌, List, [], ◌∷◌, length, take, drop, ltb, eqb}
+use Rattle.std.specs.Prelude.{ℕ, zero, suc, ◌+◌, ◌-◌, List, [], ◌∷◌, length, take, drop, ltb, eqb, Option, None, Some}
 use Rattle.numbers.specs.Numbers.{be4, be8, when}
 use Rattle.rules.specs.Kinds.{moov, moof, trak, mvex, edts, mdia, minf, dinf, stbl, traf}
 use Rattle.rules.specs.declared.Path.{Path}
 use Rattle.rules.specs.declared.Path.TheVariants.{Top, Moov, Moof, Trak, Mdia, Minf, Flat}
-use Rattle.rules.specs.declared.Inside.{Inside}
-use Rattle.rules.specs.declared.Inside.TheVariants.{Leaf, Container}
 use Rattle.rules.specs.declared.Look.{Look}
 use Rattle.rules.specs.declared.Look.TheVariants.{Nothing, Short, Small, Beyond, Good}
 
@@ -39,14 +37,14 @@ on_look Beyond e b h = b 4
 on_look (Good n z k) e b h = h n z k
 
 -- containers, only on these paths; every other box is a leaf, and a type that no rule names is passed over
-unfoldable pub inside : Path → ℕ → Inside
-inside Top k = when (eqb k moov) (Container Moov) (when (eqb k moof) (Container Moof) Leaf)
-inside Moov k = when (eqb k trak) (Container Trak) (when (eqb k mvex) (Container Flat) Leaf)
-inside Moof k = when (eqb k traf) (Container Flat) Leaf
-inside Trak k = when (eqb k edts) (Container Flat) (when (eqb k mdia) (Container Mdia) Leaf)
-inside Mdia k = when (eqb k minf) (Container Minf) Leaf
-inside Minf k = when (eqb k dinf) (Container Flat) (when (eqb k stbl) (Container Flat) Leaf)
-inside Flat k = Leaf
+unfoldable pub inside : Path → ℕ → Option Path
+inside Top k = when (eqb k moov) (Some Moov) (when (eqb k moof) (Some Moof) None)
+inside Moov k = when (eqb k trak) (Some Trak) (when (eqb k mvex) (Some Flat) None)
+inside Moof k = when (eqb k traf) (Some Flat) None
+inside Trak k = when (eqb k edts) (Some Flat) (when (eqb k mdia) (Some Mdia) None)
+inside Mdia k = when (eqb k minf) (Some Minf) None
+inside Minf k = when (eqb k dinf) (Some Flat) (when (eqb k stbl) (Some Flat) None)
+inside Flat k = None
 
 -- a box: its place in the slice, where its children begin behind that (its header's length), its whole size, its type
 pub record Box : Type 0 where
@@ -62,9 +60,9 @@ pub data Forest : Type 0 where
   node : Box → Forest → Forest → Forest
 
 -- what is inside a box's body
-abbrev pub within : (Path → List ℕ → Forest) → Inside → List ℕ → Forest
-within g Leaf s = end
-within g (Container q) s = g q s
+abbrev pub within : (Path → List ℕ → Forest) → Option Path → List ℕ → Forest
+within g None s = end
+within g (Some q) s = g q s
 
 -- the forest from a place: at most so many boxes one after the other, and nested at most so deep
 unfoldable pub grow : ℕ → Path → List ℕ → ℕ → Forest

@@ -1,12 +1,11 @@
 -- The bundle: records of a mark, a length and a track; rule 24.
-use Rattle.std.specs.Prelude.{ℕ, zero, suc, ◌+◌, ◌-◌, List, [], ◌∷◌, length, ltb, eqb}
+use Rattle.std.specs.Prelude.{ℕ, zero, suc, ◌+◌, ◌-◌, List, [], ◌∷◌, length, ltb, eqb, Ok}
 use Rattle.numbers.specs.Numbers.{be2, be4, when}
 use Rattle.rules.specs.Limits.{record_limit}
 use Rattle.rules.specs.Boxes.{part}
 use Rattle.rules.specs.declared.Mark.{Mark}
 use Rattle.rules.specs.declared.Mark.TheVariants.{Nothing, Wrong, Track}
-use Rattle.rules.specs.declared.Rule.{Rule}
-use Rattle.rules.specs.declared.Rule.TheVariants.{Holds, Breaks}
+use Rattle.rules.specs.Rules.{Rule, breaks}
 
 -- the two-byte mark 0x53 0x57
 abbrev pub mark : ℕ
@@ -49,8 +48,8 @@ records b = records_from record_limit b 0
 
 -- 24 after k good records: no record at all, or a bad one; track number, the good records before it
 unfoldable pub rule24_from : ℕ → Records → Rule
-rule24_from k none = when (eqb k 0) (Breaks 24 0 0) Holds
-rule24_from k (wrong at) = Breaks 24 k at
+rule24_from k none = when (eqb k 0) (breaks 24 0 0) (Ok tt)
+rule24_from k (wrong at) = breaks 24 k at
 rule24_from k (track from n rs) = rule24_from (k + 1) rs
 
 -- 24 of a bundle

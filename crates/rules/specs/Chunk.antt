@@ -1,19 +1,15 @@
 -- Rules 14 to 22: one chunk, a pair `moof`, `mdat`, over the whole bytes of its `moof` (m), the header length and the payload length of its `mdat`, and a few
 -- numbers: what the header tells (the track ID, id; the `trex` defaults, d) and the previous end (prev). A place is one in those bytes, or their end.
-use Rattle.std.specs.Prelude.{ℕ, zero, suc, ◌+◌, ◌*◌, List, [], ◌∷◌, Bool, true, false, not, ◌&&◌, length, leb, eqb}
+use Rattle.std.specs.Prelude.{ℕ, zero, suc, ◌+◌, ◌*◌, List, [], ◌∷◌, Bool, true, false, not, ◌&&◌, length, leb, eqb, Option, None, Some, Ok}
 use Rattle.numbers.specs.Numbers.{be8, has, signed, is_place, when}
 use Rattle.rules.specs.Kinds.{mfhd, traf, tfhd, tfdt, trun}
 use Rattle.rules.specs.Limits.{sample_limit, tick_limit}
-use Rattle.rules.specs.Rules.{◌then◌, must}
+use Rattle.rules.specs.Rules.{◌then◌, must, Rule}
 use Rattle.rules.specs.Boxes.{head_of, kids, places_of}
 use Rattle.rules.specs.Counts.{first_in, child, counts}
 use Rattle.rules.specs.Fields.{version, box_flags, field, Form, either, plain, body}
 use Rattle.rules.specs.declared.Entry.{Entry}
 use Rattle.rules.specs.declared.Entry.TheVariants.{One, OneOrMore}
-use Rattle.rules.specs.declared.Previous.{Previous}
-use Rattle.rules.specs.declared.Previous.TheVariants.{Unset, End}
-use Rattle.rules.specs.declared.Rule.{Rule}
-use Rattle.rules.specs.declared.Rule.TheVariants.{Holds}
 use Rattle.rules.specs.declared.Defaults.{Defaults}
 
 -- 14, `moof`: one `mfhd`, one `traf`
@@ -79,7 +75,7 @@ run_form m r = either (run_size m r) (run_size m r)
 
 -- 15, every `trun`, in byte order
 unfoldable pub rule15runs : List ℕ → List ℕ → Rule
-rule15runs m [] = Holds
+rule15runs m [] = Ok tt
 rule15runs m (r ∷ rs) = body 15 (run_form m r) m r then rule15runs m rs
 
 -- `mfhd` 16, version 0
@@ -108,7 +104,7 @@ not_both f = not (has f 0x4 && has f 0x400)
 
 -- 16, each `trun`
 unfoldable pub rule16runs : List ℕ → List ℕ → Rule
-rule16runs m [] = Holds
+rule16runs m [] = Ok tt
 rule16runs m (r ∷ rs) = must (not_both (box_flags m r)) 16 r then rule16runs m rs
 
 -- 16, `tfhd`: 0x1 and 0x10000 clear, 0x20000 set
@@ -222,12 +218,12 @@ unfoldable pub sync_in : List ℕ → Defaults → Bool
 sync_in m d = is_sync (first_flags m (defaults_in m d) (runs_in m))
 
 -- a start follows the previous end: it is that end, if there is one
-unfoldable pub follows : Previous → ℕ → Bool
-follows Unset start = true
-follows (End e) start = eqb start e
+unfoldable pub follows : Option ℕ → ℕ → Bool
+follows None start = true
+follows (Some e) start = eqb start e
 
 -- 19: not the track's first chunk, and `tfdt` differs from the previous end
-unfoldable pub rule19 : List ℕ → Previous → Rule
+unfoldable pub rule19 : List ℕ → Option ℕ → Rule
 rule19 m prev = must (follows prev (start_of m)) 19 (tfdt_in m)
 
 -- so many ticks from a start: not 0, and up to 2^63 - 1
@@ -239,17 +235,17 @@ unfoldable pub rule20 : List ℕ → Defaults → Rule
 rule20 m d = must (lasts (start_of m) (duration_in m d)) 20 (first_run m)
 
 -- whether a chunk begins a fragment: where its first sample is sync (house); the track's first does in any case
-unfoldable pub begins_one : Previous → Bool → Bool
-begins_one Unset sync = true
-begins_one (End e) sync = sync
+unfoldable pub begins_one : Option ℕ → Bool → Bool
+begins_one None sync = true
+begins_one (Some e) sync = sync
 
 -- whether 21 lets a chunk stand there, by whether its first sample is sync: the track's first must be, of a later one it is not asked
-unfoldable pub opens : Previous → Bool → Bool
-opens Unset sync = sync
-opens (End e) sync = true
+unfoldable pub opens : Option ℕ → Bool → Bool
+opens None sync = sync
+opens (Some e) sync = true
 
 -- 21: the track's first chunk, and its first sample is non-sync
-unfoldable pub rule21 : List ℕ → Defaults → Previous → Rule
+unfoldable pub rule21 : List ℕ → Defaults → Option ℕ → Rule
 rule21 m d prev = must (opens prev (sync_in m d)) 21 (first_run m)
 
 -- a run's data offset, signed, is the place e
@@ -265,7 +261,7 @@ rule22run m first e r = must (placed first m r e) 22 r
 
 -- 22, the runs, where the next byte is at the place e after the `moof` start; place: the first wrong run
 unfoldable pub rule22runs : List ℕ → Defaults → Bool → ℕ → List ℕ → Rule
-rule22runs m d first e [] = Holds
+rule22runs m d first e [] = Ok tt
 rule22runs m d first e (r ∷ rs) = rule22run m first e r then rule22runs m d false (e + run_bytes m d r) rs
 
 -- 22: the runs' bytes begin behind the `mdat` header and tile its payload; place of the last: `mdat`, where `moof` ends
@@ -275,7 +271,7 @@ rule22 m d head payload =
     then must (eqb (bytes_in m (defaults_in m d) (runs_in m)) payload) 22 (length m)
 
 -- 19 to 22: the chunk's timing
-unfoldable pub timing : List ℕ → Defaults → ℕ → ℕ → Previous → Rule
+unfoldable pub timing : List ℕ → Defaults → ℕ → ℕ → Option ℕ → Rule
 timing m d head payload prev = rule19 m prev then rule20 m d then rule21 m d prev then rule22 m d head payload
 
 -- the mark of this file: its definitions unfold wherever it does

@@ -1,12 +1,10 @@
 -- Box counts as the paper lists them: what a container wants of its boxes, entry by entry, and what is seen of each entry.
-use Rattle.std.specs.Prelude.{ℕ, List, [], ◌∷◌, Bool, false, ◌||◌, eqb}
+use Rattle.std.specs.Prelude.{ℕ, List, [], ◌∷◌, Bool, false, ◌||◌, eqb, Ok}
 use Rattle.numbers.specs.Numbers.{when}
-use Rattle.rules.specs.Rules.{◌then◌}
+use Rattle.rules.specs.Rules.{◌then◌, Rule, breaks}
 use Rattle.rules.specs.Boxes.{Box, kids}
 use Rattle.rules.specs.declared.Entry.{Entry}
 use Rattle.rules.specs.declared.Entry.TheVariants.{Nothing, One, AtMostOne, OneOrMore, OneInAll}
-use Rattle.rules.specs.declared.Rule.{Rule}
-use Rattle.rules.specs.declared.Rule.TheVariants.{Holds, Breaks}
 use Rattle.rules.specs.declared.Seen.{Seen}
 use Rattle.rules.specs.declared.Seen.TheVariants.{Never, Once, Twice}
 
@@ -53,19 +51,19 @@ child m at w = first_in m at (One w)
 
 -- one box: the container's place if missing, the first extra box's if too many
 unfoldable pub one_of : ℕ → ℕ → Seen → Rule
-one_of n container v = on_seen v (Breaks n 0 container) (λ a. Holds) (λ a b. Breaks n 0 b)
+one_of n container v = on_seen v (breaks n 0 container) (λ a. Ok tt) (λ a b. breaks n 0 b)
 
 -- at most one
 unfoldable pub at_most_one_of : ℕ → Seen → Rule
-at_most_one_of n v = on_seen v Holds (λ a. Holds) (λ a b. Breaks n 0 b)
+at_most_one_of n v = on_seen v (Ok tt) (λ a. Ok tt) (λ a b. breaks n 0 b)
 
 -- one or more
 unfoldable pub some_of : ℕ → ℕ → Seen → Rule
-some_of n container v = on_seen v (Breaks n 0 container) (λ a. Holds) (λ a b. Holds)
+some_of n container v = on_seen v (breaks n 0 container) (λ a. Ok tt) (λ a b. Ok tt)
 
 -- rule n's count of an entry in a container, by what is seen of it
 unfoldable pub counted : ℕ → ℕ → Entry → Seen → Rule
-counted n container Nothing v = Holds
+counted n container Nothing v = Ok tt
 counted n container (One w) v = one_of n container v
 counted n container (AtMostOne w) v = at_most_one_of n v
 counted n container (OneOrMore w) v = some_of n container v
@@ -73,12 +71,12 @@ counted n container (OneInAll u x w) v = one_of n container v
 
 -- rule n's counts in the container at a place, entry by entry
 unfoldable pub counts : ℕ → List ℕ → ℕ → List Entry → Rule
-counts n m at [] = Holds
+counts n m at [] = Ok tt
 counts n m at (e ∷ es) = counted n at e (seen e (kids m at)) then counts n m at es
 
 -- rule n's counts in a container that may be absent, by what is seen of it
 unfoldable pub counts_if : ℕ → List ℕ → Seen → List Entry → Rule
-counts_if n m v es = on_seen v Holds (λ a. counts n m a es) (λ a b. counts n m a es)
+counts_if n m v es = on_seen v (Ok tt) (λ a. counts n m a es) (λ a b. counts n m a es)
 
 -- the mark of this file: its definitions unfold wherever it does
 unfoldable pub computed_counts : Unit {0}

@@ -1,27 +1,17 @@
 -- One pass: the same rules, taken one box at a time. What a track has come to after some of its boxes is a stage of rule 6, with the rules so far. The
 -- header is judged where `moov` is met in order, a chunk where its `mdat` is; after the first broken rule of these no more are judged, but the order
 -- goes on; where the order is broken, that decides. A box is judged by its own bytes and those of the `moof` that waits, wherever they are held.
-use Rattle.std.specs.Prelude.{ℕ, ◌+◌, ◌-◌, List, [], ◌∷◌, Bool, true, ◌&&◌, length}
+use Rattle.std.specs.Prelude.{ℕ, ◌+◌, ◌-◌, List, [], ◌∷◌, Bool, true, ◌&&◌, length, Option, None, Some, Ok, Err}
 use Rattle.numbers.specs.Numbers.{when}
-use Rattle.rules.specs.Rules.{◌then◌, moved}
+use Rattle.rules.specs.Rules.{◌then◌, moved, Course, Judged, Rule, breaks}
 use Rattle.rules.specs.Boxes.{Box, boxes, whole}
 use Rattle.rules.specs.Order.{ordered, step6, on_stepped}
 use Rattle.rules.specs.Header.{header_rules, ftyp_in, header_in, places_in}
 use Rattle.rules.specs.Chunk.{shape, timing, start_of, end_of, sync_in, begins_one}
 use Rattle.rules.specs.Track.{header_of, chunks, sync_at, fragment_count, first_tick_of, end_of_track, ruling}
 use Rattle.rules.specs.Set.{mdhd_at, hdlr_at}
-use Rattle.rules.specs.declared.Course.{Course}
-use Rattle.rules.specs.declared.Course.TheVariants.{On, Broken}
-use Rattle.rules.specs.declared.FirstTick.{FirstTick}
-use Rattle.rules.specs.declared.FirstTick.TheVariants as firstTick
-use Rattle.rules.specs.declared.Ftyp.{Ftyp}
-use Rattle.rules.specs.declared.Judged.{Judged}
-use Rattle.rules.specs.declared.Judged.TheVariants.{Accepted, Refused}
-use Rattle.rules.specs.declared.Previous.TheVariants.{Unset, End}
 use Rattle.rules.specs.declared.Reached.{Reached}
 use Rattle.rules.specs.declared.Reached.TheVariants.{Start, Typed, Headed, Halved, Paired}
-use Rattle.rules.specs.declared.Rule.{Rule}
-use Rattle.rules.specs.declared.Rule.TheVariants.{Holds, Breaks}
 use Rattle.rules.specs.declared.Spot.{Spot}
 use Rattle.rules.specs.declared.Stage.{Stage}
 use Rattle.rules.specs.declared.Stage.TheVariants as stage
@@ -29,8 +19,8 @@ use Rattle.rules.specs.declared.TrackFacts.{TrackFacts}
 
 -- a rule, with what is known where it holds
 unfoldable pub judged_by : Rule → TrackFacts → Judged
-judged_by Holds f = Accepted f
-judged_by (Breaks n t p) f = Refused n t p
+judged_by (Ok u) f = Ok f
+judged_by (Err e) f = Err e
 
 -- what is known by `moov` at a place, by its bytes: no fragment yet
 unfoldable pub opened_facts : ℕ → List ℕ → TrackFacts
@@ -41,18 +31,18 @@ opened_facts at m =
       hdlr = at + (places_in m).hdlr;
       fragments = 0;
       plain = true;
-      start = firstTick.Unset;
-      end = Unset;
+      start = None;
+      end = None;
     }
 
 -- `moov` at a place, by its bytes, after `ftyp`: the header's rules
-unfoldable pub opened : Ftyp → ℕ → List ℕ → Judged
+unfoldable pub opened : Option Bool → ℕ → List ℕ → Judged
 opened f at m = judged_by (header_rules at f m) (opened_facts at m)
 
 -- the first start, with one start more
-abbrev pub or_tick : FirstTick → ℕ → FirstTick
-or_tick firstTick.Unset a = firstTick.Tick a
-or_tick (firstTick.Tick t) a = firstTick.Tick t
+abbrev pub or_tick : Option ℕ → ℕ → Option ℕ
+or_tick None a = Some a
+or_tick (Some t) a = Some t
 
 -- a track with one chunk more, by the bytes of its `moof`: one fragment more where it begins one
 unfoldable pub grown : TrackFacts → List ℕ → TrackFacts
@@ -64,16 +54,16 @@ grown f m =
       fragments = f.fragments + when (begins_one f.end (sync_in m f.header.defaults)) 1 0;
       plain = f.plain && sync_in m f.header.defaults;
       start = or_tick f.start (start_of m);
-      end = End (end_of m f.header.defaults);
+      end = Some (end_of m f.header.defaults);
     }
 
 -- the chunk whose `moof` stands at x, by its bytes and the header length and the payload of its `mdat`: its rules, unless one was broken before
 unfoldable pub joined : Judged → ℕ → List ℕ → ℕ → ℕ → Judged
-joined (Accepted f) x m head payload =
+joined (Ok f) x m head payload =
     judged_by
     (moved x (shape m f.header.id) then moved x (timing m f.header.defaults head payload f.end))
     (grown f m)
-joined (Refused n t p) x m head payload = Refused n t p
+joined (Err e) x m head payload = Err e
 
 -- the stage of rule 6 that is reached
 abbrev pub stage_of : Reached → Stage
@@ -97,18 +87,18 @@ brought own w (Paired j) b = Halved j b
 
 -- one box more: rule 6 tells whether it may stand there; of the four types it is the awaited one, any other is passed over
 unfoldable pub and_box : List ℕ → List ℕ → Course → Box → Course
-and_box own w (Broken p) x = Broken p
-and_box own w (On c) x =
-    on_stepped (step6 (stage_of c) x.kind) (λ g. On (when (ordered x.kind) (brought own w c (spot_of x)) c)) (Broken x.at)
+and_box own w (Err p) x = Err p
+and_box own w (Ok c) x =
+    on_stepped (step6 (stage_of c) x.kind) (λ g. Ok (when (ordered x.kind) (brought own w c (spot_of x)) c)) (Err x.at)
 
 -- the bytes of the `moof` that waits for its `mdat`
 abbrev pub waiting : List ℕ → Course → List ℕ
-waiting s (On Start) = []
-waiting s (On (Typed f)) = []
-waiting s (On (Headed j)) = []
-waiting s (On (Halved j m)) = whole s m.at
-waiting s (On (Paired j)) = []
-waiting s (Broken p) = []
+waiting s (Ok Start) = []
+waiting s (Ok (Typed f)) = []
+waiting s (Ok (Headed j)) = []
+waiting s (Ok (Halved j m)) = whole s m.at
+waiting s (Ok (Paired j)) = []
+waiting s (Err p) = []
 
 -- all the boxes of a run, one after the other
 unfoldable pub course_from : List ℕ → Course → List Box → Course
@@ -117,16 +107,16 @@ course_from s c (x ∷ xs) = course_from s (and_box (whole s x.at) (waiting s c)
 
 -- where a slice of some bytes has no more boxes: after a pair the rules so far decide, anywhere else the order is broken
 unfoldable pub course_end : ℕ → Course → Judged
-course_end len (Broken p) = Refused 6 0 p
-course_end len (On (Paired j)) = j
-course_end len (On Start) = Refused 6 0 len
-course_end len (On (Typed f)) = Refused 6 0 len
-course_end len (On (Headed j)) = Refused 6 0 len
-course_end len (On (Halved j m)) = Refused 6 0 len
+course_end len (Err p) = breaks 6 0 p
+course_end len (Ok (Paired j)) = j
+course_end len (Ok Start) = breaks 6 0 len
+course_end len (Ok (Typed f)) = breaks 6 0 len
+course_end len (Ok (Headed j)) = breaks 6 0 len
+course_end len (Ok (Halved j m)) = breaks 6 0 len
 
 -- the course over a slice
 unfoldable pub course_of : List ℕ → Judged
-course_of s = course_end (length s) (course_from s (On Start) (boxes s 0))
+course_of s = course_end (length s) (course_from s (Ok Start) (boxes s 0))
 
 -- whether the first sample of each chunk is sync
 unfoldable pub each_sync : (ℕ → Bool) → List ℕ → Bool

@@ -1,6 +1,6 @@
 -- The starred examples of document 01, with those of request 2, as one list and one statement; then the limits, each at both sides of its bound, and
 -- the order of the rules.
-use Rattle.std.specs.Prelude.{ℕ, zero, suc, ◌*◌, List, [], ◌∷◌, ◌++◌, map, ◌≡◌, refl, take, drop}
+use Rattle.std.specs.Prelude.{ℕ, zero, suc, ◌*◌, List, [], ◌∷◌, ◌++◌, map, ◌≡◌, refl, take, drop, Ok}
 use Rattle.rules.specs.Kinds.{moov, mdat, vmhd, trun, vide, soun, letters}
 use Rattle.rules.specs.Bytes.{in4, in8, zeros, boxed, header_with, header, run, moof_of, moof_of8, chunk, track_t}
 use Rattle.rules.specs.Bytes.{flagged_chunk, sync_flags, other_flags, three_chunks, track_u}
@@ -14,8 +14,7 @@ use Rattle.rules.specs.Set.{set_outcome}
 use Rattle.rules.specs.Jobs.{Job}
 use Rattle.rules.specs.declared.Defaults.{Defaults}
 use Rattle.rules.specs.declared.Path.TheVariants.{Top}
-use Rattle.rules.specs.declared.Rule.{Rule}
-use Rattle.rules.specs.declared.Rule.TheVariants.{Holds, Breaks}
+use Rattle.rules.specs.Rules.{Rule, breaks}
 
 -- T's header is what is written as bytes
 pub header_bytes : header_with 90000 vide vmhd ≡ header
@@ -94,7 +93,7 @@ starred_examples = refl
 -- the limits, each at the last number allowed and one beyond: a number, and what the rule says there
 -- 1: 1,073,741,824 bytes
 unfoldable pub byte_limits : List (ℕ × Rule)
-byte_limits = (1073741824, Holds) ∷ (1073741825, Breaks 1 0 0) ∷ []
+byte_limits = (1073741824, Ok tt) ∷ (1073741825, breaks 1 0 0) ∷ []
 
 pub byte_limits_lem : map (λ e. rule1 e.0) byte_limits ≡ map (λ e. e.1) byte_limits
 unfolding computed byte_limits
@@ -107,16 +106,16 @@ after_boxes n s = framing_rule (framing (forest Top s 0) (8 * n) n)
 unfoldable pub box_limits : List (ℕ × List ℕ × Rule)
 box_limits =
     -- 5: the 65,536th box, and one box more
-    (65535, in4 8 ++ in4 free, Holds)
-    ∷ (65536, in4 8 ++ in4 free, Breaks 5 0 524288)
+    (65535, in4 8 ++ in4 free, Ok tt)
+    ∷ (65536, in4 8 ++ in4 free, breaks 5 0 524288)
     -- 5: no byte after 65,536 boxes; stray bytes after 65,535 (2), and after 65,536 (5, which comes before 2)
-    ∷ (65536, [], Holds)
-    ∷ (65535, zeros 7, Breaks 2 0 524280)
-    ∷ (65536, zeros 7, Breaks 5 0 524288)
+    ∷ (65536, [], Ok tt)
+    ∷ (65535, zeros 7, breaks 2 0 524280)
+    ∷ (65536, zeros 7, breaks 5 0 524288)
     -- 5: what the 65,536th box holds is the next box, where it is a container that holds one
-    ∷ (65535, boxed moov (boxed free []), Breaks 5 0 524288)
-    ∷ (65535, boxed moov [], Holds)
-    ∷ (65535, boxed mdat (boxed free []), Holds)
+    ∷ (65535, boxed moov (boxed free []), breaks 5 0 524288)
+    ∷ (65535, boxed moov [], Ok tt)
+    ∷ (65535, boxed mdat (boxed free []), Ok tt)
     ∷ []
 
 pub box_limits_lem : map (λ e. after_boxes e.0 e.1) box_limits ≡ map (λ e. e.2) box_limits
@@ -129,7 +128,7 @@ samples n = moof_of 0 (boxed trun (in4 0 ++ in4 n))
 
 -- 18: 1 sample and none, 65,536 and one more
 unfoldable pub sample_limits : List (ℕ × Rule)
-sample_limits = (0, Breaks 18 0 24) ∷ (1, Holds) ∷ (65536, Holds) ∷ (65537, Breaks 18 0 24) ∷ []
+sample_limits = (0, breaks 18 0 24) ∷ (1, Ok tt) ∷ (65536, Ok tt) ∷ (65537, breaks 18 0 24) ∷ []
 
 pub sample_limits_lem : map (λ e. rule18 (samples e.0)) sample_limits ≡ map (λ e. e.1) sample_limits
 unfolding computed samples sample_limits
@@ -145,7 +144,7 @@ no_defaults = record { duration = 0; size = 0; flags = 0 }
 
 -- 20: an end at tick 2^63 - 1, and one tick later
 unfoldable pub tick_limits : List (ℕ × Rule)
-tick_limits = (9223372036854595807, Holds) ∷ (9223372036854595808, Breaks 20 0 68) ∷ []
+tick_limits = (9223372036854595807, Ok tt) ∷ (9223372036854595808, breaks 20 0 68) ∷ []
 
 pub tick_limits_lem : map (λ e. rule20 (starts_at e.0) no_defaults) tick_limits ≡ map (λ e. e.1) tick_limits
 unfolding computed starts_at tick_limits
@@ -153,7 +152,7 @@ tick_limits_lem = refl
 
 -- 20: a chunk of no tick, and of one, by the `trex` default
 unfoldable pub duration_limits : List (ℕ × Rule)
-duration_limits = (0, Breaks 20 0 64) ∷ (1, Holds) ∷ []
+duration_limits = (0, breaks 20 0 64) ∷ (1, Ok tt) ∷ []
 
 pub duration_limits_lem : map (λ e. rule20 (samples 1) (record { duration = e.0; size = 0; flags = 0 })) duration_limits ≡ map (λ e. e.1) duration_limits
 unfolding computed samples duration_limits
@@ -166,7 +165,7 @@ records_of (suc n) = (0x53 ∷ 0x57 ∷ in4 0) ++ records_of n
 
 -- 24: 16 records, and 17
 unfoldable pub record_limits : List (ℕ × Rule)
-record_limits = (16, Holds) ∷ (17, Breaks 24 16 96) ∷ []
+record_limits = (16, Ok tt) ∷ (17, breaks 24 16 96) ∷ []
 
 pub record_limits_lem : map (λ e. rule24 (records_of e.0)) record_limits ≡ map (λ e. e.1) record_limits
 unfolding computed records_of record_limits
@@ -176,13 +175,13 @@ record_limits_lem = refl
 unfoldable pub orders : List (List ℕ × Rule)
 orders =
     -- timescale 0, and a handler that doesn't pair with its media header: 10, not 12
-    (header_with 0 soun vmhd ++ chunk 0 108 30, Breaks 10 0 244)
+    (header_with 0 soun vmhd ++ chunk 0 108 30, breaks 10 0 244)
     -- timescale 0, and the last byte of `moov` cut off: 4, not 10
-    ∷ (take 491 (header_with 0 vide vmhd), Breaks 4 0 20)
+    ∷ (take 491 (header_with 0 vide vmhd), breaks 4 0 20)
     -- timescale 0, and behind that `mdhd` a `trex` that ends beyond its parent: 4 there, not 10
-    ∷ (take 460 (header_with 0 vide vmhd) ++ in4 33 ++ drop 464 (header_with 0 vide vmhd), Breaks 4 0 460)
+    ∷ (take 460 (header_with 0 vide vmhd) ++ in4 33 ++ drop 464 (header_with 0 vide vmhd), breaks 4 0 460)
     -- timescale 0, and behind the header a box whose size field is 0: 3 there, not 10
-    ∷ (header_with 0 vide vmhd ++ zeros 8, Breaks 3 0 492)
+    ∷ (header_with 0 vide vmhd ++ zeros 8, breaks 3 0 492)
     ∷ []
 
 -- the order, by computation

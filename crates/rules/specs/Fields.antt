@@ -1,10 +1,8 @@
 -- The fields of a full box at a place of a slice, and the form of a box body: its versions and whole sizes with the short header.
 use Rattle.std.specs.Prelude.{ℕ, ◌+◌, ◌-◌, ◌%◌, List, Bool, false, leb, eqb}
 use Rattle.numbers.specs.Numbers.{byte, be3, be4, when}
-use Rattle.rules.specs.Rules.{must}
+use Rattle.rules.specs.Rules.{must, Rule, breaks}
 use Rattle.rules.specs.Boxes.{head_of, size_of}
-use Rattle.rules.specs.declared.Rule.{Rule}
-use Rattle.rules.specs.declared.Rule.TheVariants.{Breaks}
 
 -- the whole size that the box at a place has with the short header
 unfoldable pub short_size : List ℕ → ℕ → ℕ
@@ -47,7 +45,7 @@ body_place w s at = at
 
 -- rule n of such a body
 abbrev pub wrong_body : ℕ → Form → List ℕ → ℕ → Rule
-wrong_body n w s at = Breaks n 0 (body_place w s at)
+wrong_body n w s at = breaks n 0 (body_place w s at)
 
 -- rule n of a box body: it has its form
 unfoldable pub body : ℕ → Form → List ℕ → ℕ → Rule

@@ -1,19 +1,15 @@
 -- Rules 7 to 13: the header, over what `ftyp` tells (f) and the whole bytes of `moov` (m). A place is one in those bytes; in the track `ftyp` stands
 -- at 0, and the rules of `moov` are moved to where it stands.
-use Rattle.std.specs.Prelude.{ℕ, zero, suc, ◌+◌, ◌-◌, ◌*◌, ◌/◌, List, [], ◌∷◌, Bool, false, not, ◌||◌, eqb}
+use Rattle.std.specs.Prelude.{ℕ, zero, suc, ◌+◌, ◌-◌, ◌*◌, ◌/◌, List, [], ◌∷◌, Bool, false, not, ◌||◌, eqb, Option, None, Some, Ok}
 use Rattle.numbers.specs.Numbers.{when}
 use Rattle.rules.specs.Kinds.{mvhd, trak, tkhd, edts, elst, mdia, mdhd, hdlr, elng, minf, vmhd, smhd, sthd, dinf, dref}
 use Rattle.rules.specs.Kinds.{stbl, stsd, stts, stsc, stsz, stco, mvex, trex, cmfc, cmf2, vide, soun, subt}
-use Rattle.rules.specs.Rules.{◌then◌, must, moved}
+use Rattle.rules.specs.Rules.{◌then◌, must, moved, Rule, breaks}
 use Rattle.rules.specs.Boxes.{head_of, size_of, kind_of, kids}
 use Rattle.rules.specs.Counts.{seen, first_in, child, counts, counts_if}
 use Rattle.rules.specs.Fields.{Form, field, timed, either, plain, at_least, fours, has_form, body}
 use Rattle.rules.specs.declared.Entry.{Entry}
 use Rattle.rules.specs.declared.Entry.TheVariants.{One, AtMostOne, OneInAll}
-use Rattle.rules.specs.declared.Ftyp.{Ftyp}
-use Rattle.rules.specs.declared.Ftyp.TheVariants.{Branded, Wrong}
-use Rattle.rules.specs.declared.Rule.{Rule}
-use Rattle.rules.specs.declared.Rule.TheVariants.{Holds, Breaks}
 use Rattle.rules.specs.declared.Places.{Places}
 use Rattle.rules.specs.declared.Defaults.{Defaults}
 use Rattle.rules.specs.declared.Header.{Header}
@@ -120,13 +116,13 @@ abbrev pub ftyp_form : Form
 ftyp_form = fours 16
 
 -- what the bytes of `ftyp` tell: its form, and its brands
-unfoldable pub ftyp_in : List ℕ → Ftyp
-ftyp_in f = when (has_form ftyp_form f 0) (Branded (branded f (brands f))) Wrong
+unfoldable pub ftyp_in : List ℕ → Option Bool
+ftyp_in f = when (has_form ftyp_form f 0) (Some (branded f (brands f))) None
 
 -- 8, `ftyp`
-unfoldable pub rule8ftyp : Ftyp → Rule
-rule8ftyp (Branded b) = Holds
-rule8ftyp Wrong = Breaks 8 0 0
+unfoldable pub rule8ftyp : Option Bool → Rule
+rule8ftyp (Some b) = Ok tt
+rule8ftyp None = breaks 8 0 0
 
 -- `mvhd` 108 (version 0) or 120 (version 1)
 abbrev pub mvhd_form : Form
@@ -171,9 +167,9 @@ rule8 m p =
     then body 8 trex_form m p.trex
 
 -- 9: neither `cmfc` nor `cmf2` among the compatible brands
-unfoldable pub rule9 : Ftyp → Rule
-rule9 (Branded b) = must b 9 0
-rule9 Wrong = Holds
+unfoldable pub rule9 : Option Bool → Rule
+rule9 (Some b) = must b 9 0
+rule9 None = Ok tt
 
 -- the `mdhd` timescale, the `tkhd` track ID, the handler
 abbrev pub timescale_of : List ℕ → Places → ℕ
@@ -227,7 +223,7 @@ unfoldable pub rules_of_values : List ℕ → Places → Rule
 rules_of_values m p = rule10 m p then rule11 m p then rule12 m p then rule13 m p
 
 -- 7 to 13, in this order, where `moov` stands at a base
-unfoldable pub header_rules : ℕ → Ftyp → List ℕ → Rule
+unfoldable pub header_rules : ℕ → Option Bool → List ℕ → Rule
 header_rules base f m =
     moved base (rule7 m)
     then rule8ftyp f

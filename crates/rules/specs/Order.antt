@@ -1,29 +1,26 @@
 -- Rule 6: the order of the top level, as an automaton over its boxes.
-use Rattle.std.specs.Prelude.{ℕ, List, [], ◌∷◌, Bool, ◌||◌, length, eqb}
+use Rattle.std.specs.Prelude.{ℕ, List, [], ◌∷◌, Bool, ◌||◌, length, eqb, Option, None, Some, Ok}
 use Rattle.numbers.specs.Numbers.{when}
 use Rattle.rules.specs.Kinds.{ftyp, moov, moof, mdat}
 use Rattle.rules.specs.Boxes.{Box, boxes}
 use Rattle.rules.specs.declared.Stage.{Stage}
 use Rattle.rules.specs.declared.Stage.TheVariants.{Start, Typed, Headed, Halved, Paired}
-use Rattle.rules.specs.declared.Stepped.{Stepped}
-use Rattle.rules.specs.declared.Stepped.TheVariants.{To, Wrong}
-use Rattle.rules.specs.declared.Rule.{Rule}
-use Rattle.rules.specs.declared.Rule.TheVariants.{Holds, Breaks}
+use Rattle.rules.specs.Rules.{Rule, breaks}
 
 -- the four types that the order speaks of; any other is passed over
 unfoldable pub ordered : ℕ → Bool
 ordered k = eqb k ftyp || eqb k moov || eqb k moof || eqb k mdat
 
 -- the wanted type leads on, another of the four is wrong, any other box is passed over
-unfoldable pub awaits : ℕ → Stage → Stage → ℕ → Stepped
-awaits w next same k = when (eqb k w) (To next) (when (ordered k) Wrong (To same))
+unfoldable pub awaits : ℕ → Stage → Stage → ℕ → Option Stage
+awaits w next same k = when (eqb k w) (Some next) (when (ordered k) None (Some same))
 
 -- the stage after a box of type k: the first box is `ftyp`; then `moov`; then `moof`, whose next box is its `mdat`, one or more times
-unfoldable pub step6 : Stage → ℕ → Stepped
-step6 Start k = when (eqb k ftyp) (To Typed) Wrong
+unfoldable pub step6 : Stage → ℕ → Option Stage
+step6 Start k = when (eqb k ftyp) (Some Typed) None
 step6 Typed k = awaits moov Headed Typed k
 step6 Headed k = awaits moof Halved Headed k
-step6 Halved k = when (eqb k mdat) (To Paired) Wrong
+step6 Halved k = when (eqb k mdat) (Some Paired) None
 step6 Paired k = awaits moof Halved Paired k
 
 -- where the boxes may run out: after a pair
@@ -32,17 +29,17 @@ complete Start r = r
 complete Typed r = r
 complete Headed r = r
 complete Halved r = r
-complete Paired r = Holds
+complete Paired r = Ok tt
 
 -- a case by a step
-abbrev pub on_stepped : {A : Type 0} → Stepped → (Stage → A) → A → A
-on_stepped (To g) a b = a g
-on_stepped Wrong a b = b
+abbrev pub on_stepped : {A : Type 0} → Option Stage → (Stage → A) → A → A
+on_stepped (Some g) a b = a g
+on_stepped None a b = b
 
 -- 6 from a stage on: place, the first box after which no continuation could be good; the slice's length if the boxes run out
 unfoldable pub order_from : ℕ → Stage → List Box → Rule
-order_from len g [] = complete g (Breaks 6 0 len)
-order_from len g (x ∷ xs) = on_stepped (step6 g x.kind) (λ h. order_from len h xs) (Breaks 6 0 x.at)
+order_from len g [] = complete g (breaks 6 0 len)
+order_from len g (x ∷ xs) = on_stepped (step6 g x.kind) (λ h. order_from len h xs) (breaks 6 0 x.at)
 
 -- 6 of a slice
 unfoldable pub rule6 : List ℕ → Rule

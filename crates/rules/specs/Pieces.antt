@@ -1,17 +1,14 @@
 -- A track that arrives in pieces (document 02, request 1): what the form answers, as one function of the joined bytes.
-use Rattle.std.specs.Prelude.{ℕ, Bool, false, ◌||◌, List, length, get_or, ltb, eqb}
+use Rattle.std.specs.Prelude.{ℕ, Bool, false, ◌||◌, List, length, get_or, ltb, eqb, None}
 use Rattle.numbers.specs.Numbers.{when}
 use Rattle.rules.specs.Kinds.{ftyp, moov, moof}
 use Rattle.rules.specs.Limits.{gather_limit}
-use Rattle.rules.specs.Rules.{◌then◌, on_rule}
+use Rattle.rules.specs.Rules.{◌then◌, on_rule, Framing, Rule}
 use Rattle.rules.specs.Boxes.{Forest, end, bad, node, forest, size_of, kind_of}
 use Rattle.rules.specs.Framing.{framing, framing_rule}
 use Rattle.rules.specs.Order.{rule6}
 use Rattle.rules.specs.Track.{rule1, header_of, chunks, fragment_count, timescale, rules_of_header, rules_of_chunks, boundaries}
 use Rattle.rules.specs.declared.Path.TheVariants.{Top}
-use Rattle.rules.specs.declared.Framing.{Framing}
-use Rattle.rules.specs.declared.Previous.TheVariants.{Unset}
-use Rattle.rules.specs.declared.Rule.{Rule}
 use Rattle.rules.specs.declared.Answer.{Answer}
 
 -- the types of the top level whose boxes are gathered
@@ -39,7 +36,7 @@ ruling_in_pieces s =
     then framing_rule (framed_with29 s)
     then rule6 s
     then rules_of_header s
-    then rules_of_chunks s (header_of s) Unset (chunks s)
+    then rules_of_chunks s (header_of s) None (chunks s)
 
 -- the first and the last boundary of a track
 unfoldable pub first_boundary : List ℕ → ℕ

@@ -1,9 +1,9 @@
 -- Plans of a set, what it is for two of them to tell a set apart, and both halves of demand 3 as properties of any player.
-use Rattle.std.specs.Prelude.{ℕ, ◌+◌, ◌≤◌, ◌<◌, max, ◌≡◌, ◌⊎◌, List, [], ◌∷◌, length, take}
+use Rattle.std.specs.Prelude.{ℕ, ◌+◌, ◌≤◌, ◌<◌, max, ◌≡◌, ◌⊎◌, List, [], ◌∷◌, length, take, Ok}
 use Rattle.rules.specs.Track.{ruling, fragment_count, timescale, boundaries}
 use Rattle.rules.specs.Set.{handler, track0, set_ruling}
 use Rattle.rules.specs.Player.{Played, stuck, passed}
-use Rattle.rules.specs.declared.Rule.TheVariants.{Holds, Breaks}
+use Rattle.rules.specs.Rules.{breaks}
 
 -- a property of every element
 abbrev pub All : {A : Type 0} → (A → Type 0) → List A → Type 0
@@ -46,7 +46,7 @@ ToldApart player ss one other =
 
 -- each track is accepted by itself
 abbrev pub Singly : List (List ℕ) → Type 0
-Singly ss = All (λ s. ruling s ≡ Holds) ss
+Singly ss = All (λ s. ruling s ≡ Ok tt) ss
 
 -- the tracks have one handler and one timescale
 abbrev pub OneKind : List (List ℕ) → Type 0
@@ -55,19 +55,19 @@ OneKind ss = All (λ s. (handler s ≡ handler (track0 ss)) × (timescale s ≡ 
 -- the first half, of any player: every plan of an accepted set passes the first boundaries of track 0, one more than it has steps
 abbrev pub HasFirstHalf : Player → Type 0
 HasFirstHalf player =
-    (ss : List (List ℕ)) (plan : List ℕ) → set_ruling ss ≡ Holds → Plan ss plan
+    (ss : List (List ℕ)) (plan : List ℕ) → set_ruling ss ≡ Ok tt → Plan ss plan
     → player ss plan ≡ passed (take (length plan + 1) (boundaries (track0 ss)))
 
 -- the second half, of any player: tracks accepted singly, of one kind, refused as a set under 27 or 28, are told apart by two plans
 abbrev pub HasSecondHalf : Player → Type 0
 HasSecondHalf player =
-    (ss : List (List ℕ)) (k p : ℕ) → Singly ss → OneKind ss → (set_ruling ss ≡ Breaks 27 k p) ⊎ (set_ruling ss ≡ Breaks 28 k p)
+    (ss : List (List ℕ)) (k p : ℕ) → Singly ss → OneKind ss → (set_ruling ss ≡ breaks 27 k p) ⊎ (set_ruling ss ≡ breaks 28 k p)
     → (one : List ℕ) × (other : List ℕ) × ToldApart player ss one other
 
 -- its sharper part: under 27 one plan runs through and the other gets stuck
 abbrev pub HasStuckHalf : Player → Type 0
 HasStuckHalf player =
-    (ss : List (List ℕ)) (k p : ℕ) → Singly ss → OneKind ss → set_ruling ss ≡ Breaks 27 k p
+    (ss : List (List ℕ)) (k p : ℕ) → Singly ss → OneKind ss → set_ruling ss ≡ breaks 27 k p
     → (one : List ℕ) × (other : List ℕ) × Comparable ss one other × OneStuck (player ss one) (player ss other)
 
 -- the mark of this file: its definitions unfold wherever it does

@@ -1,17 +1,15 @@
 -- The player: a written rule over the tracks' bytes, and never over a verdict or a table.
-use Rattle.std.specs.Prelude.{ℕ, zero, suc, ◌+◌, List, [], ◌∷◌, map, Bool, true, false, ◌&&◌, length, leb, eqb, ℤ, pos, ◌+ℤ◌}
+use Rattle.std.specs.Prelude.{ℕ, zero, suc, ◌+◌, List, [], ◌∷◌, map, Bool, true, false, ◌&&◌, length, leb, eqb, ℤ, pos, ◌+ℤ◌, Ok, Err}
 use Rattle.std.proofs.Math.Option.{Option, none, some}
 use Rattle.std.proofs.Math.ListN.{get_elem?}
 use Rattle.numbers.specs.Numbers.{has, signed, is_place, when}
-use Rattle.rules.specs.Rules.{◌then◌}
+use Rattle.rules.specs.Rules.{◌then◌, Rule}
 use Rattle.rules.specs.Boxes.{head_of, size_of, whole}
 use Rattle.rules.specs.Fields.{field, box_flags}
 use Rattle.rules.specs.Framing.{rules_of_framing}
 use Rattle.rules.specs.Order.{rule6}
 use Rattle.rules.specs.Chunk.{count_of, bytes_of, sum_to, run_bytes, runs_in, defaults_in}
 use Rattle.rules.specs.Track.{rule1, rules_of_header, header_of, chunks, mdat_at, shape_at, start_at, end_at, sync_at, Fragment, fragments, timescale}
-use Rattle.rules.specs.declared.Rule.{Rule}
-use Rattle.rules.specs.declared.Rule.TheVariants.{Holds, Breaks}
 use Rattle.rules.specs.declared.Defaults.{Defaults}
 use Rattle.rules.specs.declared.Header.{Header}
 
@@ -70,7 +68,7 @@ stretch_at s h f =
 
 -- 14 to 18 of every chunk
 unfoldable pub shapes : List ℕ → Header → List ℕ → Rule
-shapes s h [] = Holds
+shapes s h [] = Ok tt
 shapes s h (x ∷ xs) = shape_at s h x then shapes s h xs
 
 -- rules 1 to 18 of a track
@@ -80,8 +78,8 @@ rules_before_timing s =
 
 -- whether a rule holds
 abbrev pub good : Rule → Bool
-good Holds = true
-good (Breaks n t p) = false
+good (Ok u) = true
+good (Err e) = false
 
 -- what the player meets of a track's bytes
 unfoldable pub stream_of : List ℕ → Stream

@@ -5,7 +5,7 @@ use Rattle.rules.specs.Bytes.{in4, zeros, boxed, header, run, moof_of, chunk, sy
 use Rattle.rules.specs.Computed.{computed}
 use Rattle.rules.specs.Track.{ruling}
 use Rattle.rules.specs.Player.{Played, stuck, passed, rules_before_timing, play}
-use Rattle.rules.specs.declared.Rule.TheVariants.{Breaks}
+use Rattle.rules.specs.Rules.{breaks}
 
 -- a `moof` from what its `tfhd` holds, a start and its runs
 unfoldable pub moof_by : List ℕ → ℕ → List ℕ → List ℕ
@@ -48,6 +48,6 @@ unfolding computed moof_by two_runs empty_first spare first_steps
 first_steps_lem = refl
 
 -- the verdict on that track is 22 at the first `mdat`, though of rules 1 to 18 it is 17 at the second `tfhd` that stops the player
-pub verdict_22_player_17 : (ruling (spare 2) ∷ rules_before_timing (spare 2) ∷ []) ≡ (Breaks 22 0 592 ∷ Breaks 17 0 663 ∷ [])
+pub verdict_22_player_17 : (ruling (spare 2) ∷ rules_before_timing (spare 2) ∷ []) ≡ (breaks 22 0 592 ∷ breaks 17 0 663 ∷ [])
 unfolding computed moof_by spare
 verdict_22_player_17 = refl

@@ -1,12 +1,10 @@
 -- The switching set: tracks in order, then rules 25 to 28 for track 1, for track 2, and so on, then room.
-use Rattle.std.specs.Prelude.{ℕ, ◌+◌, List, [], ◌∷◌, length, drop, eqb}
-use Rattle.rules.specs.Rules.{◌then◌, must, of_track, on_rule}
+use Rattle.std.specs.Prelude.{ℕ, ◌+◌, List, [], ◌∷◌, length, drop, eqb, Ok}
+use Rattle.rules.specs.Rules.{◌then◌, must, of_track, on_rule, Rule}
 use Rattle.rules.specs.Header.{places_in}
 use Rattle.rules.specs.Track.{rule1, ruling, moov_at, moov_of, header_of, fragments, first_moofs, fragment_count}
 use Rattle.rules.specs.Track.{timescale, boundaries, Outcome, room_of, refused}
 use Rattle.rules.specs.Bundle.{rule24, tracks}
-use Rattle.rules.specs.declared.Rule.{Rule}
-use Rattle.rules.specs.declared.Rule.TheVariants.{Holds}
 
 -- where the track's `hdlr` and `mdhd` stand
 unfoldable pub hdlr_at : List ℕ → ℕ
@@ -31,7 +29,7 @@ first_or p (x ∷ xs) = x
 -- 28 over boundaries of track 0, boundaries of the track, and the places of its fragments from here on; the last one's stands in for a missing one.
 -- It is tried behind 27: of two tracks with one number of fragments, so with one number of boundaries.
 unfoldable pub rule28_from : ℕ → List ℕ → List ℕ → List ℕ → Rule
-rule28_from last [] ys ps = Holds
+rule28_from last [] ys ps = Ok tt
 rule28_from last (x ∷ xs) ys ps =
     must (eqb (first_or 0 ys) x) 28 (first_or last ps) then rule28_from (first_or last ps) xs (drop 1 ys) (drop 1 ps)
 
@@ -49,12 +47,12 @@ agrees s₀ s =
 
 -- each track by itself, from the k-th on
 unfoldable pub rulings : ℕ → List (List ℕ) → Rule
-rulings k [] = Holds
+rulings k [] = Ok tt
 rulings k (s ∷ ss) = of_track k (ruling s) then rulings (k + 1) ss
 
 -- each track beside track 0, from the k-th on
 unfoldable pub agree : List ℕ → ℕ → List (List ℕ) → Rule
-agree s₀ k [] = Holds
+agree s₀ k [] = Ok tt
 agree s₀ k (s ∷ ss) = of_track k (agrees s₀ s) then agree s₀ (k + 1) ss
 
 -- track 0 of a set

@@ -1,9 +1,9 @@
 -- The track: what its bytes say, whether every rule holds, and the outcome of the index job and the track job.
-use Rattle.std.specs.Prelude.{ℕ, ◌+◌, ◌-◌, List, [], ◌∷◌, ◌++◌, map, Bool, length, drop, leb, ltb}
+use Rattle.std.specs.Prelude.{ℕ, ◌+◌, ◌-◌, List, [], ◌∷◌, ◌++◌, map, Bool, length, drop, leb, ltb, Option, None, Some, Ok}
 use Rattle.numbers.specs.Numbers.{when}
 use Rattle.rules.specs.Kinds.{moov, moof}
 use Rattle.rules.specs.Limits.{byte_limit}
-use Rattle.rules.specs.Rules.{◌then◌, must, moved, on_rule}
+use Rattle.rules.specs.Rules.{◌then◌, must, moved, on_rule, Rule}
 use Rattle.rules.specs.Boxes.{boxes, forest, places_of, head_of, size_of, whole}
 use Rattle.rules.specs.Counts.{seen, first_of}
 use Rattle.rules.specs.Framing.{framed, on_framing, rules_of_framing, rows}
@@ -12,12 +12,6 @@ use Rattle.rules.specs.Header.{header_rules, ftyp_in, header_in}
 use Rattle.rules.specs.Chunk.{shape, timing, start_of, end_of, sync_in}
 use Rattle.rules.specs.declared.Path.TheVariants.{Top}
 use Rattle.rules.specs.declared.Entry.TheVariants.{One}
-use Rattle.rules.specs.declared.FirstTick.{FirstTick}
-use Rattle.rules.specs.declared.FirstTick.TheVariants as firstTick
-use Rattle.rules.specs.declared.Previous.{Previous}
-use Rattle.rules.specs.declared.Previous.TheVariants.{Unset, End}
-use Rattle.rules.specs.declared.Rule.{Rule}
-use Rattle.rules.specs.declared.Rule.TheVariants.{Holds}
 use Rattle.rules.specs.declared.Header.{Header}
 use Rattle.rules.specs.declared.Verdict.{Verdict}
 
@@ -56,7 +50,7 @@ unfoldable pub shape_at : List ℕ → Header → ℕ → Rule
 shape_at s h x = moved x (shape (whole s x) h.id)
 
 -- 19 to 22 of the chunk at x, after the previous end
-unfoldable pub timing_at : List ℕ → Header → Previous → ℕ → Rule
+unfoldable pub timing_at : List ℕ → Header → Option ℕ → ℕ → Rule
 timing_at s h prev x =
     moved x (timing (whole s x) h.defaults (head_of s (mdat_at s x)) (size_of s (mdat_at s x) - head_of s (mdat_at s x)) prev)
 
@@ -71,10 +65,10 @@ unfoldable pub sync_at : List ℕ → Header → ℕ → Bool
 sync_at s h x = sync_in (whole s x) h.defaults
 
 -- 14 to 22, chunk by chunk, after the previous end
-unfoldable pub rules_of_chunks : List ℕ → Header → Previous → List ℕ → Rule
-rules_of_chunks s h prev [] = Holds
+unfoldable pub rules_of_chunks : List ℕ → Header → Option ℕ → List ℕ → Rule
+rules_of_chunks s h prev [] = Ok tt
 rules_of_chunks s h prev (x ∷ xs) =
-    shape_at s h x then timing_at s h prev x then rules_of_chunks s h (End (end_at s h x)) xs
+    shape_at s h x then timing_at s h prev x then rules_of_chunks s h (Some (end_at s h x)) xs
 
 -- 7 to 13 of a track
 unfoldable pub rules_of_header : List ℕ → Rule
@@ -87,7 +81,7 @@ ruling s =
     then rules_of_framing s
     then rule6 s
     then rules_of_header s
-    then rules_of_chunks s (header_of s) Unset (chunks s)
+    then rules_of_chunks s (header_of s) None (chunks s)
 
 -- a fragment: where its first chunk stands, and where those stand that continue it
 pub record Fragment : Type 0 where
@@ -126,30 +120,30 @@ unfoldable pub timescale : List ℕ → ℕ
 timescale s = (header_of s).timescale
 
 -- the start of the first of chunks at places
-abbrev pub first_tick_of : List ℕ → List ℕ → FirstTick
-first_tick_of s [] = firstTick.Unset
-first_tick_of s (x ∷ xs) = firstTick.Tick (start_at s x)
+abbrev pub first_tick_of : List ℕ → List ℕ → Option ℕ
+first_tick_of s [] = None
+first_tick_of s (x ∷ xs) = Some (start_at s x)
 
 -- the end of the last of chunks at places, after an end before them
-unfoldable pub last_end : List ℕ → Header → Previous → List ℕ → Previous
+unfoldable pub last_end : List ℕ → Header → Option ℕ → List ℕ → Option ℕ
 last_end s h prev [] = prev
-last_end s h prev (x ∷ xs) = last_end s h (End (end_at s h x)) xs
+last_end s h prev (x ∷ xs) = last_end s h (Some (end_at s h x)) xs
 
 -- an end as a list: none where it is unset
-abbrev pub end_list : Previous → List ℕ
-end_list Unset = []
-end_list (End e) = e ∷ []
+abbrev pub end_list : Option ℕ → List ℕ
+end_list None = []
+end_list (Some e) = e ∷ []
 
 -- the boundaries of a track's chunks at places: each fragment's start, which is its first chunk's, and the last end
 unfoldable pub ticks : List ℕ → Header → List ℕ → List ℕ
-ticks s h xs = map (start_at s) (first_moofs (in_fragments (sync_at s h) xs)) ++ end_list (last_end s h Unset xs)
+ticks s h xs = map (start_at s) (first_moofs (in_fragments (sync_at s h) xs)) ++ end_list (last_end s h None xs)
 
 unfoldable pub boundaries : List ℕ → List ℕ
 boundaries s = ticks s (header_of s) (chunks s)
 
 -- the last end of a track
-abbrev pub end_of_track : List ℕ → Previous
-end_of_track s = last_end s (header_of s) Unset (chunks s)
+abbrev pub end_of_track : List ℕ → Option ℕ
+end_of_track s = last_end s (header_of s) None (chunks s)
 
 -- what a job gives back: the verdict, and the lent table afterwards
 pub record Outcome : Type 0 where

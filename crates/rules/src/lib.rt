@@ -2,7 +2,8 @@
 #![tactic(auto)]
 
 ghost use Rattle.std.specs.Prelude.{◌≡◌};
-ghost use Rattle.rules.specs.Rules.{◌then◌, must, of_track};
+ghost use Rattle.rules.specs.Rules.{must, of_track};
+ghost use Rattle.rules.specs.Pieces.{refused_as};
 
 // Where a run of boxes stands: at the top, in a container that holds containers, or in any other.
 #[derive(Clone, Copy)]
@@ -14,13 +15,6 @@ pub enum Path {
     Mdia,
     Minf,
     Flat,
-}
-
-// What a box type is on a path: a leaf, or a container whose run stands on another path.
-#[derive(Clone, Copy)]
-pub enum Inside {
-    Leaf,
-    Container(Path),
 }
 
 // What stands at a place of a slice: nothing, a broken header, or a box.
@@ -41,12 +35,15 @@ pub struct Spot {
     pub size: usize,
 }
 
-// How a run of boxes is framed: whole, with the number of boxes so far, or broken at a place.
+// Where a run of boxes is broken: the number of the rule and the place.
 #[derive(Clone, Copy)]
-pub enum Framing {
-    Framed(usize),
-    Misframed { number: u64, place: usize },
+pub struct Misframed {
+    pub number: u64,
+    pub place: usize,
 }
+
+// How a run of boxes is framed: whole, with the number of boxes so far, or broken at a place.
+pub type Framing = Result<usize, Misframed>;
 
 // The boxes of a kind in a run: none, one with its place, or more with the first two places.
 #[derive(Clone, Copy)]
@@ -66,27 +63,6 @@ pub enum Entry {
     OneInAll(u32, u32, u32),
 }
 
-// What `ftyp` tells: whether `cmfc` or `cmf2` is among its compatible brands, or that its body is wrong.
-#[derive(Clone, Copy)]
-pub enum Ftyp {
-    Branded(bool),
-    Wrong,
-}
-
-// The start of the track's first chunk: unset before it.
-#[derive(Clone, Copy)]
-pub enum FirstTick {
-    Unset,
-    Tick(u64),
-}
-
-// The end of the chunk before: unset before the track's first.
-#[derive(Clone, Copy)]
-pub enum Previous {
-    Unset,
-    End(u64),
-}
-
 // A stage of rule 6: what the top level has read so far.
 #[derive(Clone, Copy)]
 pub enum Stage {
@@ -97,13 +73,6 @@ pub enum Stage {
     Paired,
 }
 
-// A stage's step: to another stage, or to where no continuation is good.
-#[derive(Clone, Copy)]
-pub enum Stepped {
-    To(Stage),
-    Wrong,
-}
-
 // What stands at a place of a bundle: nothing, no good record, or a record with its track's length.
 #[derive(Clone, Copy)]
 pub enum Mark {
@@ -112,12 +81,17 @@ pub enum Mark {
     Track(usize),
 }
 
-// What a rule, or a list of rules in their order, says.
+// A rule that breaks: its number, its track and its place. The number is one of the paper's table, or whatever the memory of the form that takes pieces
+// holds: that is lent, and its caller may have written any number there.
 #[derive(Clone, Copy)]
-pub enum Rule {
-    Holds,
-    Breaks { number: u64, track: u64, place: u64 },
+pub struct Refusal {
+    pub number: u64,
+    pub track: u64,
+    pub place: u64,
 }
+
+// What a rule, or a list of rules in their order, says: that all hold, or the first that breaks.
+pub type Rule = Result<(), Refusal>;
 
 // The places of the header's boxes, counted in the bytes of `moov`.
 #[derive(Clone, Copy)]
@@ -153,7 +127,7 @@ pub struct Header {
 }
 
 // What is known of a track: what its header tells, where `mdhd` and `hdlr` stand in it, the number of its fragments, whether the first sample of
-// each chunk is sync, so that each begins one, the first start and the last end.
+// each chunk is sync, so that each begins one, the first start and the last end, which a track with no chunk so far has not.
 #[derive(Clone, Copy)]
 pub struct TrackFacts {
     pub header: Header,
@@ -161,34 +135,26 @@ pub struct TrackFacts {
     pub hdlr: u64,
     pub fragments: u64,
     pub plain: bool,
-    pub start: FirstTick,
-    pub end: Previous,
+    pub start: Option<u64>,
+    pub end: Option<u64>,
 }
 
 // What the rules of a track come to: all hold, with what is known of it, or the first that breaks.
-#[derive(Clone, Copy)]
-pub enum Judged {
-    Accepted(TrackFacts),
-    Refused { number: u64, track: u64, place: u64 },
-}
+pub type Judged = Result<TrackFacts, Refusal>;
 
 // A stage of rule 6 with what the boxes up to it brought: nothing yet; what `ftyp` tells; the header's rules; a `moof` that waits for its
 // `mdat`; a chunk's rules.
 #[derive(Clone, Copy)]
 pub enum Reached {
     Start,
-    Typed(Ftyp),
+    Typed(Option<bool>),
     Headed(Judged),
     Halved(Judged, Spot),
     Paired(Judged),
 }
 
 // What a track has come to after some of its boxes: a stage that they reached, or the place where the order breaks.
-#[derive(Clone, Copy)]
-pub enum Course {
-    On(Reached),
-    Broken(usize),
-}
+pub type Course = Result<Reached, usize>;
 
 // What a job answers.
 #[derive(Clone, Copy)]
@@ -208,66 +174,78 @@ pub struct Answer {
     pub last: u64,
 }
 
-// A test that must hold, with the number and the place of its refusal.
-pub fn must(ok: bool, number: u64, place: u64) -> Rule
-    ensures { result ≡ must ok number place }
-{
-    if ok {
-        Rule::Holds
-    } else {
-        Rule::Breaks {
+impl Refusal {
+    // By its number, its track and its place.
+    pub fn new(number: u64, track: u64, place: u64) -> Refusal
+        ensures { result ≡ record { number = number; track = track; place = place } }
+    {
+        Refusal {
             number,
-            track: 0,
+            track,
             place,
         }
     }
 }
 
-// The first rule if it breaks, else the second.
-pub fn first_broken(first: Rule, second: Rule) -> Rule
-    ensures { result ≡ (first then second) }
+// A test that must hold, with the number and the place of its refusal.
+pub fn must(ok: bool, number: u64, place: u64) -> Rule
+    ensures { result ≡ must ok number place }
 {
-    match first {
-        Rule::Holds => second,
-        Rule::Breaks {
+    if ok {
+        Ok(())
+    } else {
+        Err(Refusal {
             number,
-            track,
+            track: 0,
             place,
-        } => Rule::Breaks {
-            number,
-            track,
-            place,
-        },
+        })
     }
 }
 
 // A track's rule as track k of a set.
+#[tactic(auto, unfolding(crate::specs::Rules::of_track))]
 pub fn of_track(k: u64, rule: Rule) -> Rule
     ensures { result ≡ of_track k rule }
 {
     match rule {
-        Rule::Holds => Rule::Holds,
-        Rule::Breaks {
-            number,
-            track: _,
-            place,
-        } => Rule::Breaks {
-            number,
-            track: k,
-            place,
-        },
+        Ok(()) => Ok(()),
+        Err(e) => Err(Refusal { track: k, ..e }),
     }
 }
 
-// A job's refusal: no count, no timescale.
-pub fn refusal(number: u64, track: u64, place: u64) -> Verdict
-    ensures { result ≡ record { number = number; track = track; place = place; count = 0; timescale = 0 } }
-{
-    Verdict {
-        number,
-        track,
-        place,
-        count: 0,
-        timescale: 0,
+// A broken framing, as the refusal of a track.
+impl From<Misframed> for Refusal {
+    ghost from_gives = { λ m r. r ≡ record { number = m.number; track = 0; place = m.place } };
+
+    fn from(m: Misframed) -> Refusal {
+        Refusal::new(m.number, 0, m.place as u64)
+    }
+}
+
+// A refusal, as what a job answers: no count, no timescale.
+impl From<Refusal> for Verdict {
+    ghost from_gives = { λ e v. v ≡ record { number = e.number; track = e.track; place = e.place; count = 0; timescale = 0 } };
+
+    fn from(e: Refusal) -> Verdict {
+        Verdict {
+            number: e.number,
+            track: e.track,
+            place: e.place,
+            count: 0,
+            timescale: 0,
+        }
+    }
+}
+
+// A refusal, as what the form that takes pieces answers: no boundaries.
+impl From<Refusal> for Answer {
+    ghost from_gives = { λ e a. a ≡ refused_as e.number e.track e.place };
+
+    fn from(e: Refusal) -> Answer {
+        Answer {
+            verdict: e.into(),
+            first: 0,
+            last: 0,
+        }
     }
 }

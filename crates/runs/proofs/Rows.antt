@@ -1,10 +1,10 @@
 -- Laws of rows: their bytes place by place, and what these come to over many rows. The odd bytes are the second, the fourth and so on.
-use Rattle.std.proofs.Common.{◌≡◌, ℕ, zero, suc, ◌+◌, ◌*◌, ◌/◌, ◌%◌, ◌^◌, ◌<◌, ◌≤◌, List, take, drop, sym, refl, ap, ◌∙◌, add-mul, zero-mul, add-one, arith, get_or-drop, get_or-take}
+use Rattle.std.proofs.Common.{◌≡◌, ℕ, zero, suc, ◌+◌, ◌-◌, ◌*◌, ◌/◌, ◌%◌, ◌^◌, ◌<◌, ◌≤◌, List, sym, refl, ap, ◌∙◌, add-mul, zero-mul, add-one, arith}
 use native.Mathlib.Nat.{mul-add-div_right, div-eq_of_lt}
 use Rattle.numbers.specs.Numbers.{byte, be4}
 use Rattle.rules.specs.Chunk.{sum_to}
 use Rattle.runs.specs.Samples.{every_four, Summed}
-use Rattle.runs.specs.Rows.{stored, every_other, lanes, from_columns}
+use Rattle.runs.specs.Rows.{every_other, lanes, from_columns}
 
 -- n bytes come to at most 255 n
 sum_small : (g : ℕ → ℕ) → ((i : ℕ) → g i < 256) → (n : ℕ) → sum_to g n ≤ 255 * n
@@ -40,27 +40,6 @@ module _ (m : List ℕ) (p : ℕ) where
   unfolding every_other
   lanes_odd b =
       odd_lanes _ _ _ _ _ _ _ _ (b (p + 1)) (b (p + 2)) (b (p + 1 + 2)) (b (p + 4)) (b (p + 1 + 4)) (b (p + 6)) (b (p + 1 + 6)) (omega (arith, b p))
-
-  -- a row is its two halves, each read in the part that is the row
-  in_part : (k j q : ℕ) → j < k → q ≡ p + j → byte (take k (drop p m)) j ≡ byte m q
-  in_part k j q h e = get_or-take k (drop p m) j 0 h ∙ get_or-drop p m j 0 ∙ ap (byte m) (sym e)
-
-  pub row_of :
-      (k a b : ℕ) → 8 ≤ k → a ≡ stored (take k (drop p m)) 0 → b ≡ stored (take k (drop p m)) 4 →
-      a + b * 4294967296 ≡ every_other m p + every_other m (p + 1) * 256
-  unfolding stored every_other
-  row_of k a b h e f =
-      omega (
-        arith,
-        in_part k 0 p (omega arith) (omega arith),
-        in_part k 1 (p + 1) (omega arith) refl,
-        in_part k 2 (p + 2) (omega arith) refl,
-        in_part k 3 (p + 1 + 2) (omega arith) (omega arith),
-        in_part k 4 (p + 4) (omega arith) refl,
-        in_part k 5 (p + 1 + 4) (omega arith) (omega arith),
-        in_part k 6 (p + 6) (omega arith) refl,
-        in_part k 7 (p + 1 + 6) (omega arith) (omega arith),
-      )
 
 -- the two lowest 16 bits of a number
 lane : (x y a b : ℕ) → x ≡ y * 4294967296 + b * 65536 + a → a < 65536 → b < 65536 → (x % 65536 ≡ a) × (x / 65536 % 65536 ≡ b)
@@ -188,16 +167,16 @@ added_more m from step i p x all odd sum o b e f a g h =
     record { all = rw (k, l) (omega (arith, a.all)); odd = omega (arith, l, a.odd, rw f at h, lanes_odd m p b) }
 
 -- all of a block: without the odd bytes it is the others
-without_odd :
-    (all odd even e : ℕ) → all ≡ (e + odd * 256) % 2 ^ 64 → (even + odd % 72057594037927936 * 256) % 2 ^ 64 ≡ all → even < 2 ^ 64 → e < 2 ^ 64 →
-    even ≡ e
-without_odd all odd even e f g h k = omega arith
+abbrev without : ℕ → ℕ → ℕ
+without all odd = (all + (2 ^ 64 - odd % 72057594037927936 * 256)) % 2 ^ 64
+
+without_odd : (all odd e : ℕ) → all ≡ (e + odd * 256) % 2 ^ 64 → e < 2 ^ 64 → without all odd ≡ e
+without_odd all odd e f k = omega arith
 
 pub added_all :
-    (m : List ℕ) (from step n all odd even ticks bytes : ℕ) → ((j : ℕ) → byte m j < 256) → n ≤ 256 → Added m from step n all odd →
-    (even + odd % 72057594037927936 * 256) % 2 ^ 64 ≡ all → even < 2 ^ 64 → ticks ≡ from_columns even odd →
-    bytes ≡ from_columns (even / 4294967296) (odd / 4294967296) →
+    (m : List ℕ) (from step n all odd ticks bytes : ℕ) → ((j : ℕ) → byte m j < 256) → n ≤ 256 → Added m from step n all odd →
+    ticks ≡ from_columns (without all odd) odd → bytes ≡ from_columns (without all odd / 4294967296) (odd / 4294967296) →
     Summed (every_four m from step) n ticks × Summed (every_four m (from + 4) step) n bytes
-added_all m from step n all odd even ticks bytes b h a f g t u =
-    rw (t, u) (halves m from step b n h even odd
-    (without_odd all odd even (lanes_to m from step n) (rw a.odd a.all) f g (lanes_small m from step b n h from 0 (omega arith))) a.odd)
+added_all m from step n all odd ticks bytes b h a t u =
+    rw (t, u) (halves m from step b n h (without all odd) odd
+    (without_odd all odd (lanes_to m from step n) (rw a.odd a.all) (lanes_small m from step b n h from 0 (omega arith))) a.odd)

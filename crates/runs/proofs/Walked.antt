@@ -1,44 +1,23 @@
 -- Laws of the walk over the runs: one run more, and the runs in a front of the `moof` box by box.
-use Rattle.std.proofs.Common.{◌≡◌, ℕ, ◌+◌, ◌<◌, ◌≤◌, Bool, true, false, eqb, leb, List, [], ◌∷◌, length, sym, refl, ap, ◌∙◌, subst, mul-le-mul_left, mul-zero, mul-suc, arith, eq-eqb, ne_eqb, eqb-true, leb-false, leb-true}
+use Rattle.std.proofs.Common.{◌≡◌, ℕ, ◌+◌, ◌≤◌, Bool, true, false, eqb, List, [], ◌∷◌, length, sym, refl, ap, ◌∙◌, subst, arith, eq-eqb, ne_eqb, eqb-true}
 use borrow.Author.Tests.{eqb-false}
 use Rattle.numbers.specs.Numbers.{when}
 use Rattle.rules.specs.Kinds.{trun}
-use Rattle.rules.specs.Limits.{sample_limit}
 use Rattle.rules.specs.Boxes.{look, boxes, places_of}
-use Rattle.rules.specs.Rules.{◌then◌, must, PlacedUpTo}
+use Rattle.rules.specs.Rules.{◌then◌, must, PlacedUpTo, Rule, breaks}
 use Rattle.rules.specs.Fields.{box_flags, body}
-use Rattle.rules.specs.Chunk.{run_head, stride, count_of, run_form, rule15runs, not_both, rule16runs, samples_of, run_bytes, durations_of, bytes_in, first_flags_of, first_flags, is_sync, rule22runs}
+use Rattle.rules.specs.Chunk.{count_of, run_form, rule15runs, not_both, rule16runs, samples_of, run_bytes, durations_of, bytes_in, first_flags_of, first_flags, is_sync, rule22runs}
 use Rattle.rules.specs.declared.Look.{Look}
 use Rattle.rules.specs.declared.Look.TheVariants.{Good}
-use Rattle.rules.specs.declared.Rule.{Rule}
-use Rattle.rules.specs.declared.Rule.TheVariants.{Holds, Breaks}
+use Rattle.std.specs.Prelude.{Ok}
 use Rattle.rules.specs.declared.Defaults.{Defaults}
 use Rattle.rules.proofs.Forest.{places_hit, places_miss, places_end}
 use Rattle.rules.proofs.Then.{then_holds, then_breaks, then_assoc, then_first}
 use Rattle.rules.proofs.Untracked.{then_is, must_is}
-use Rattle.rules.specs.declared.Spot.{Spot}
 use Rattle.boxes.proofs.Walks.{over, told_header}
-use Rattle.runs.specs.Trun.{FilledRun}
-use Rattle.runs.specs.Runs.{runs_at, Due, SaysDue, AndSamples, SpansAll, PassedRuns, Walked}
+use Rattle.runs.specs.Runs.{runs_at, Due, AndSamples, SpansAll, PassedRuns, Walked}
 use Rattle.runs.specs.declared.Span.{Span}
 use Rattle.runs.specs.declared.Totals.{Totals}
-
--- sums are asked for where the samples are few
-pub due_by : (want : Bool) (clash : Rule) (samples : ℕ) → want ≡ true → clash ≡ Holds → SaysDue (leb samples sample_limit) want clash samples
-due_by want clash samples w h =
-    let by : (t : Bool) → leb samples sample_limit ≡ t → SaysDue t want clash samples
-    = elim [
-      | true ↦ λ y. (w, h, leb-true samples sample_limit y)
-      | false ↦ λ y d. omega (arith, d.2, leb-false samples sample_limit y)
-    ] in
-    by (leb samples sample_limit) refl
-
--- a run that is filled and has a sample: the first's fields stand in the run
-module _ (m : List ℕ) (r : Spot) (f n : ℕ) (p : FilledRun m r f n) where
-  pub one_inside : (n ≡ 0 → ⊥) → r.head + run_head f + stride f ≤ r.size
-  one_inside some =
-      let h : 0 < n = omega (arith, some) in
-      omega (arith, p.fills, mul-suc (stride f) 0, mul-zero (stride f), mul-le-mul_left (stride f) h)
 
 -- the first sample after a run more
 first_on :
@@ -64,7 +43,7 @@ due_before_run want t clash q n told due = (due.0, then_first t.clash q (sym tol
 -- before the first run
 pub walked_none :
     (m : List ℕ) (want : Bool) (d : Defaults) (from : ℕ) (all : List ℕ) →
-    Walked m want d from all all (record { clash = Holds; samples = 0; span = record { ticks = 0; bytes = 0; lead = true; sync = true; tiled = Holds } })
+    Walked m want d from all all (record { clash = Ok tt; samples = 0; span = record { ticks = 0; bytes = 0; lead = true; sync = true; tiled = Ok tt } })
 walked_none m want d from all =
     record {
       passed = record { sized = refl; clash = sym (then_holds _ refl); samples = omega arith; place = tt };
@@ -85,7 +64,7 @@ placed_then n r t k p h l = then_is (PlacedUpTo n) r (must t k p) h (must_is (Pl
 
 -- past the next run, which has its form
 module _ (m : List ℕ) (want : Bool) (d : Defaults) (from : ℕ) (all : List ℕ) (r : ℕ) (rest : List ℕ) (t : Totals)
-    (w : Walked m want d from all (r ∷ rest) t) (right : body 15 (run_form m r) m r ≡ Holds) (low : r ≤ length m)
+    (w : Walked m want d from all (r ∷ rest) t) (right : body 15 (run_form m r) m r ≡ Ok tt) (low : r ≤ length m)
     (f n : ℕ) (flags : f ≡ box_flags m r) (count : n ≡ count_of m r)
     (ok : Bool) (tested : ok ≡ not_both f) (clash : Rule) (told : clash ≡ (t.clash then must ok 16 r)) where
   passed_on : (b : Span) → PassedRuns m all rest (record { clash = clash; samples = t.samples + n; span = b })
@@ -142,6 +121,6 @@ module _ (m : List ℕ) (want : Bool) (d : Defaults) (from : ℕ) (all left : Li
   pub walked_same : (rest : List ℕ) → left ≡ rest → Walked m want d from all rest t
   walked_same rest e = subst (λ (rs : List ℕ). Walked m want d from all rs t) e w
 
-  pub walked_wrong : (r : ℕ) (rest : List ℕ) → left ≡ r ∷ rest → body 15 (run_form m r) m r ≡ Breaks 15 0 r → rule15runs m all ≡ Breaks 15 0 r
+  pub walked_wrong : (r : ℕ) (rest : List ℕ) → left ≡ r ∷ rest → body 15 (run_form m r) m r ≡ breaks 15 0 r → rule15runs m all ≡ breaks 15 0 r
   unfolding rule15runs
   walked_wrong r rest e wrong = w.passed.sized ∙ ap (rule15runs m) e ∙ then_breaks _ wrong

@@ -2,10 +2,6 @@
 use Rattle.std.specs.Prelude.{ℕ, ◌+◌, ◌*◌, ◌/◌, ◌%◌, List}
 use Rattle.numbers.specs.Numbers.{byte}
 
--- the four bytes at a place, the first the lowest
-unfoldable pub stored : List ℕ → ℕ → ℕ
-stored m p = byte m p + byte m (p + 1) * 256 + byte m (p + 2) * 65536 + byte m (p + 3) * 16777216
-
 -- every other byte from a place on, four of them, in 16 bits each
 unfoldable pub every_other : List ℕ → ℕ → ℕ
 every_other m p = byte m (p + 6) * 281474976710656 + byte m (p + 4) * 4294967296 + byte m (p + 2) * 65536 + byte m p

@@ -1,21 +1,18 @@
 -- The runs of a chunk: what the walk over them knows, and what it answers.
-use Rattle.std.specs.Prelude.{◌≡◌, ℕ, ◌+◌, ◌*◌, ◌≤◌, Bool, true, false, List, [], ◌∷◌, length, ◌==◌}
+use Rattle.std.specs.Prelude.{◌≡◌, ℕ, ◌+◌, ◌*◌, ◌≤◌, Bool, true, false, List, [], ◌∷◌, length, ◌==◌, Result, Ok, Err}
 use Rattle.numbers.specs.Numbers.{when}
 use Rattle.rules.specs.Kinds.{trun}
 use Rattle.rules.specs.Limits.{sample_limit}
 use Rattle.rules.specs.Boxes.{boxes, places_of}
-use Rattle.rules.specs.Rules.{◌then◌, PlacedUpTo}
+use Rattle.rules.specs.Rules.{◌then◌, PlacedUpTo, Rule, breaks}
 use Rattle.rules.specs.Fields.{wrong_body, body}
 use Rattle.rules.specs.Chunk.{run_form, first_flags_of, run_duration, run_bytes, samples_of, durations_of, bytes_in, first_flags}
 use Rattle.rules.specs.Chunk.{rule15runs, rule16runs, rule22run, rule22runs, is_sync}
-use Rattle.rules.specs.declared.Rule.{Rule}
-use Rattle.rules.specs.declared.Rule.TheVariants.{Holds, Breaks}
 use Rattle.rules.specs.declared.Defaults.{Defaults}
 use Rattle.rules.specs.declared.Spot.{Spot}
 use Rattle.runs.specs.declared.Span.{Span}
 use Rattle.runs.specs.declared.Totals.{Totals}
-use Rattle.runs.specs.declared.Runs.{Runs}
-use Rattle.runs.specs.declared.Runs.TheVariants.{Of, Wrong}
+use Rattle.runs.specs.declared.WrongRun.{WrongRun}
 
 -- the places of the runs in a slice from a place on
 unfoldable pub runs_at : List ℕ → ℕ → List ℕ
@@ -23,7 +20,7 @@ runs_at s at = places_of trun (boxes s at)
 
 -- sums are asked for: they are wanted, rule 16 holds so far, and the samples are few so far
 abbrev pub Due : Bool → Rule → ℕ → Type 0
-Due want clash samples = (want ≡ true) × (clash ≡ Holds) × (samples ≤ sample_limit)
+Due want clash samples = (want ≡ true) × (clash ≡ Ok tt) × (samples ≤ sample_limit)
 
 abbrev pub SaysDue : Bool → Bool → Rule → ℕ → Type 0
 SaysDue true want clash samples = Due want clash samples
@@ -76,11 +73,11 @@ abbrev pub Onward : List ℕ → Bool → Defaults → ℕ → ℕ → Totals �
 Onward m want d from r t u = (all rest : List ℕ) → Walked m want d from all (r ∷ rest) t → Walked m want d from all rest u
 
 -- one run more, or the place of one that has another form
-abbrev pub SaysNext : Runs → List ℕ → Spot → Bool → Defaults → ℕ → Totals → Type 0
-SaysNext (Of u) m r want d from t = Onward m want d from r.at t u × (u.samples ≤ t.samples + 4294967295)
-SaysNext (Wrong p) m r want d from t = (body 15 (run_form m r.at) m r.at ≡ wrong_body 15 (run_form m r.at) m r.at) × (p ≡ r.at)
+abbrev pub SaysNext : Result Totals WrongRun → List ℕ → Spot → Bool → Defaults → ℕ → Totals → Type 0
+SaysNext (Ok u) m r want d from t = Onward m want d from r.at t u × (u.samples ≤ t.samples + 4294967295)
+SaysNext (Err w) m r want d from t = (body 15 (run_form m r.at) m r.at ≡ wrong_body 15 (run_form m r.at) m r.at) × (w.place ≡ r.at)
 
 -- what all runs come to, or the place of the first that has another form
-abbrev pub SaysRuns : Runs → List ℕ → Bool → Defaults → ℕ → List ℕ → Type 0
-SaysRuns (Of t) m want d from rs = Walked m want d from rs [] t
-SaysRuns (Wrong p) m want d from rs = (rule15runs m rs ≡ Breaks 15 0 p) × (p ≤ length m)
+abbrev pub SaysRuns : Result Totals WrongRun → List ℕ → Bool → Defaults → ℕ → List ℕ → Type 0
+SaysRuns (Ok t) m want d from rs = Walked m want d from rs [] t
+SaysRuns (Err w) m want d from rs = (rule15runs m rs ≡ breaks 15 0 w.place) × (w.place ≤ length m)

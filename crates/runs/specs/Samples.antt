@@ -1,7 +1,9 @@
 -- Sums over the samples of a run.
-use Rattle.std.specs.Prelude.{◌≡◌, ℕ, ◌+◌, ◌*◌, ◌≤◌, List}
+use Rattle.std.specs.Prelude.{◌≡◌, ℕ, ◌+◌, ◌*◌, ◌/◌, ◌≤◌, List, length}
 use Rattle.numbers.specs.Numbers.{be4}
+use Rattle.rules.specs.Limits.{sample_limit}
 use Rattle.rules.specs.Chunk.{sum_to}
+use Rattle.runs.specs.declared.samples.Sums.{Sums}
 
 -- the four-byte number i steps from a place
 abbrev pub every_four : List ℕ → ℕ → ℕ → ℕ → ℕ
@@ -11,3 +13,12 @@ every_four m from step i = be4 m (from + step * i)
 pub record Summed (g : ℕ → ℕ) (n sum : ℕ) : Type 0 where
   pub total : sum ≡ sum_to g n
   pub small : sum ≤ 4294967295 * n
+
+-- rows of a step of so many bytes at least, and of 16 at most, no more of them than a chunk has samples
+abbrev pub FewRows : ℕ → ℕ → List ℕ → Type 0
+FewRows least step rows = (least ≤ step) × (step ≤ 16) × (length rows / step ≤ sample_limit)
+
+-- the sums of rows a step apart: of the number that each begins with, and of the next
+pub record SumsRows (rows : List ℕ) (step : ℕ) (s : Sums) : Type 0 where
+  pub ticks : Summed (every_four rows 0 step) (length rows / step) s.ticks
+  pub bytes : Summed (every_four rows 4 step) (length rows / step) s.bytes

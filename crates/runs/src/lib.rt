@@ -11,7 +11,7 @@ ghost use Rattle.runs.specs.Trun.{FilledRun};
 ghost use Rattle.runs.specs.Runs.{runs_at, SaysDue, SmallSums, Low, sync_after, AndSamples, SaysNext, SaysRuns};
 
 use boxes::kinds::TRUN;
-use rules::{Defaults, Look, Rule, Spot};
+use rules::{Defaults, Look, Refusal, Rule, Spot};
 use trun::Trun;
 
 pub mod again;
@@ -41,22 +41,26 @@ pub struct Totals {
     pub span: Span,
 }
 
-// What runs come to, or the place of the first that has another form.
+// A run that has another form, by its place.
 #[derive(Clone, Copy)]
-pub enum Runs {
-    Of(Totals),
-    Wrong(u64),
+pub struct WrongRun {
+    pub place: u64,
+}
+
+// It breaks rule 15 there.
+impl From<WrongRun> for Refusal {
+    ghost from_gives = { λ w e. e ≡ record { number = 15; track = 0; place = w.place } };
+
+    fn from(w: WrongRun) -> Refusal {
+        Refusal::new(15, 0, w.place)
+    }
 }
 
 // Rule 16, a run: first-sample flags and flags of each sample do not stand in one run.
 fn not_both(flags: u32) -> bool
     ensures { result ≡ not_both flags }
 {
-    if numbers::has(flags, 0x4) {
-        let each = numbers::has(flags, 0x400);
-        return !each;
-    }
-    true
+    !(numbers::has(flags, 0x4) && numbers::has(flags, 0x400))
 }
 
 // Whether sums are asked for: they are wanted, rule 16 holds so far, and the samples are few so far.
@@ -67,82 +71,29 @@ fn due(want: bool, clash: Rule, samples: u64) -> bool
         return false;
     }
     match clash {
-        Rule::Holds => samples <= SAMPLE_LIMIT,
-        Rule::Breaks { .. } => false,
+        Ok(()) => samples <= SAMPLE_LIMIT,
+        Err(_) => false,
     }
-}
-
-// The flags of the first sample of a run with these flags, which has one.
-fn first_flags_of(m: &[u8], r: Spot, flags: u32, d: Defaults) -> u32
-    requires { Stands m.now r × (flags ≡ box_flags m.now r.at) × (r.head + run_head flags + stride flags ≤ r.size) }
-    ensures { result ≡ first_flags_of m.now d r.at }
-{
-    if numbers::has(flags, 0x4) { // first-sample flags stand before all
-        let k = 8 + layout::bytes_for(4, flags, 0x1);
-        return fields::word(m, r, k);
-    }
-    if numbers::has(flags, 0x400) {
-        let ticks = layout::run_head(flags) + layout::bytes_for(4, flags, 0x100);
-        let k = ticks + layout::bytes_for(4, flags, 0x200);
-        return fields::word(m, r, k);
-    }
-    d.flags
 }
 
 // Rule 21: not the non-sync bit.
 fn is_sync(flags: u32) -> bool
     ensures { result ≡ is_sync flags }
 {
-    let other = numbers::has(flags, 0x10000);
-    !other
-}
-
-// Whether the first sample is a sync sample, after n samples and one run more: that run's, where there was none before and is one in it.
-fn sync_after(n: u64, sync: bool, m: &[u8], r: Spot, flags: u32, count: u32, d: Defaults) -> bool
-    requires { FilledRun m.now r flags count }
-    ensures { result ≡ sync_after n count sync m.now d r.at }
-{
-    if n != 0 {
-        return sync;
-    }
-    if count == 0 {
-        return sync;
-    }
-    is_sync(first_flags_of(m, r, flags, d))
-}
-
-// Rule 22, a run with these flags: the first carries an offset, equal to the place e; a later one none, or one equal to it.
-fn placed(first: bool, m: &[u8], r: Spot, flags: u32, e: u64) -> bool
-    requires { Stands m.now r × (flags ≡ box_flags m.now r.at) × (r.head + run_head flags ≤ r.size) }
-    ensures { result ≡ placed first m.now r.at e }
-{
-    if numbers::has(flags, 0x1) {
-        let offset = numbers::signed(fields::word(m, r, 8));
-        return numbers::is_place(offset, e);
-    }
-    !first
+    !numbers::has(flags, 0x10000)
 }
 
 // What samples span with those of one run more, after so many samples, where the bytes of all begin at a place.
-fn and_samples(
-    m: &[u8],
-    r: Spot,
-    flags: u32,
-    count: u32,
-    d: Defaults,
-    from: u64,
-    before: u64,
-    a: Span,
-) -> Span
-    requires filled_run { FilledRun m.now r flags count × (before + count ≤ sample_limit) × (from ≤ byte_limit + 16) }
+fn and_samples(m: &[u8], run: Trun, d: Defaults, from: u64, before: u64, a: Span) -> Span
+    requires filled_run { FilledRun m.now run.spot run.flags run.count × (before + run.count ≤ sample_limit) × (from ≤ byte_limit + 16) }
+    requires m_len_bound { length m.now ≤ byte_limit }
     requires small_sums { SmallSums before a }
-    ensures { AndSamples m.now d from before r.at count a result }
+    ensures { AndSamples m.now d from before run.spot.at run.count a result }
 {
-    let own = placed(a.lead, m, r, flags, from + a.bytes);
-    let so_far = a.tiled;
-    let tiled = rules::first_broken(so_far, rules::must(own, 22, r.at as u64));
-    let sync = sync_after(before, a.sync, m, r, flags, count, d);
-    let sums = samples::sums_of(m, r, flags, count, d);
+    let own = run.is_placed(a.lead, m, from + a.bytes);
+    let tiled = a.tiled.and(rules::must(own, 22, run.spot.at as u64));
+    let sync = run.sync_after(before, a.sync, m, d);
+    let sums = samples::sums_of(m, run, d);
     Span {
         ticks: a.ticks + sums.ticks,
         bytes: a.bytes + sums.bytes,
@@ -153,28 +104,34 @@ fn and_samples(
 }
 
 // What runs come to with one more.
-fn and_run(m: &[u8], r: Spot, want: bool, d: Defaults, from: u64, t: Totals) -> Runs
-    requires stands { Stands m.now r × (from ≤ byte_limit + 16) }
+fn and_run(
+    m: &[u8],
+    r: Spot,
+    want: bool,
+    d: Defaults,
+    from: u64,
+    t: Totals,
+) -> Result<Totals, WrongRun>
+    requires stands { Stands m.now r × (length m.now ≤ byte_limit) × (from ≤ byte_limit + 16) }
     requires low { Low want t × (t.samples ≤ 4294967296 * byte_limit) }
     ensures { SaysNext result m.now r want d from t }
 {
-    let run = trun::read_trun(m, r);
-    let Trun::Of { flags, count } = run else {
-        return Runs::Wrong(r.at as u64);
+    let place = r.at as u64;
+    let Some(run) = trun::read_trun(m, r) else {
+        return Err(WrongRun { place });
     };
-    let so_far = t.clash;
-    let clash = rules::first_broken(so_far, rules::must(not_both(flags), 16, r.at as u64));
-    let samples = t.samples + count as u64;
+    let clash = t.clash.and(rules::must(not_both(run.flags), 16, place));
+    let samples = t.samples + run.count as u64;
     let passed = t.span;
     if !due(want, clash, samples) {
-        return Runs::Of(Totals {
+        return Ok(Totals {
             clash,
             samples,
             span: passed,
         });
     }
-    let span = and_samples(m, r, flags, count, d, from, t.samples, passed);
-    Runs::Of(Totals {
+    let span = and_samples(m, run, d, from, t.samples, passed);
+    Ok(Totals {
         clash,
         samples,
         span,
@@ -182,34 +139,36 @@ fn and_run(m: &[u8], r: Spot, want: bool, d: Defaults, from: u64, t: Totals) -> 
 }
 
 // What the runs from a start on in a front of the `moof` come to, where the first sample's byte is at a place after the `moof` start.
-pub fn walk(m: &[u8], s: &[u8], start: usize, want: bool, d: Defaults, from: u64) -> Runs
+pub fn walk(
+    m: &[u8],
+    s: &[u8],
+    start: usize,
+    want: bool,
+    d: Defaults,
+    from: u64,
+) -> Result<Totals, WrongRun>
     requires m_len_bound { (length m.now ≤ byte_limit) × (from ≤ byte_limit + 16) }
     requires s_value { s.now ≡ take (length s.now) m.now }
     ensures { SaysRuns result m.now want d from (runs_at s.now start) }
 {
     let mut at = start;
     let mut t = Totals {
-        clash: Rule::Holds,
+        clash: Ok(()),
         samples: 0,
         span: Span {
             ticks: 0,
             bytes: 0,
             lead: true,
             sync: true,
-            tiled: Rule::Holds,
+            tiled: Ok(()),
         },
     };
     loop {
-        let l = boxes::look(s, at);
-        let Look::Good { head, size, kind } = l else {
-            return Runs::Of(t);
+        let Look::Good { head, size, kind } = boxes::look(s, at) else {
+            return Ok(t);
         };
         if kind == TRUN {
-            let step = and_run(m, Spot { at, head, size }, want, d, from, t);
-            let Runs::Of(next) = step else {
-                return Runs::Wrong(at as u64);
-            };
-            t = next;
+            t = and_run(m, Spot { at, head, size }, want, d, from, t)?;
         }
         at += size;
     }

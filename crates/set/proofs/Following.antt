@@ -10,15 +10,15 @@ use lib.Dec.{ltb}
 use Rattle.numbers.specs.Numbers.{when}
 use Rattle.rules.specs.Limits.{record_limit}
 use Rattle.rules.specs.Boxes.{part}
-use Rattle.rules.specs.Rules.{◌then◌, of_track}
+use Rattle.rules.specs.Rules.{◌then◌, of_track, Rule}
 use Rattle.rules.specs.Bundle.{record_at, none, wrong, tracks_of}
 use Rattle.rules.specs.Track.{ruling}
 use Rattle.rules.specs.Set.{rulings, agrees, agree}
 use Rattle.rules.proofs.Then.{then_holds, then_breaks, then_assoc, then_last}
 use Rattle.rules.specs.declared.Mark.{Mark}
 use Rattle.rules.specs.declared.Mark.TheVariants.{Nothing, Wrong, Track}
-use Rattle.rules.specs.declared.Rule.{Rule}
-use Rattle.rules.specs.declared.Rule.TheVariants.{Holds, Breaks}
+use Rattle.rules.specs.declared.Refusal.{Refusal}
+use Rattle.std.specs.Prelude.{Ok, Err}
 use Rattle.set.specs.Says.{rest_of, all_of}
 use Rattle.bundle.proofs.Read.{here, full}
 
@@ -58,7 +58,7 @@ pub record MembersGoing (b s₀ : List ℕ) (from at k : ℕ) (sofar : Rule) : T
   pub few : k ≤ record_limit
   pub inner : at ≤ length b
 
-pub members_begins : (b s₀ : List ℕ) (from : ℕ) → from ≤ length b → MembersGoing b s₀ from from 1 Holds
+pub members_begins : (b s₀ : List ℕ) (from : ℕ) → from ≤ length b → MembersGoing b s₀ from from 1 (Ok tt)
 unfolding ◌then◌
 members_begins b s₀ from h = record { rule = refl; few = omega arith; inner = h }
 
@@ -70,7 +70,7 @@ module _ (b s₀ : List ℕ) {from at k : ℕ} {sofar : Rule} (g : MembersGoing 
       sym
       (g.rule
       ∙ ap (λ (ss : List (List ℕ)). rulings k ss then (sofar then agree s₀ k ss)) e
-      ∙ then_holds (sofar then Holds) refl
+      ∙ then_holds (sofar then Ok tt) refl
       ∙ then_last sofar)
 
   module _ (s : List ℕ) (next : ℕ) (e : rest_of b k at ≡ s ∷ rest_of b (k + 1) next) where
@@ -81,12 +81,11 @@ module _ (b s₀ : List ℕ) {from at k : ℕ} {sofar : Rule} (g : MembersGoing 
     members_step = g.rule ∙ ap (λ (ss : List (List ℕ)). rulings k ss then (sofar then agree s₀ k ss)) e
 
     -- the track breaks a rule by itself
-    pub members_breaks : {n t p : ℕ} → ruling s ≡ Breaks n t p → Breaks n k p ≡ all_of b s₀ from
-    unfolding of_track
-    members_breaks f = sym (members_step ∙ then_breaks _ (then_breaks _ (ap (of_track k) f)))
+    pub members_breaks : {e : Refusal} → of_track k (ruling s) ≡ Err e → Err e ≡ all_of b s₀ from
+    members_breaks f = sym (members_step ∙ then_breaks _ (then_breaks _ f))
 
     -- it holds by itself
-    pub members_on : {sofar' : Rule} → ruling s ≡ Holds → sofar' ≡ (sofar then of_track k (agrees s₀ s)) → k < record_limit → next ≤ length b
+    pub members_on : {sofar' : Rule} → ruling s ≡ Ok tt → sofar' ≡ (sofar then of_track k (agrees s₀ s)) → k < record_limit → next ≤ length b
         → MembersGoing b s₀ from next (k + 1) sofar'
     unfolding of_track
     members_on {sofar'} f i h m =

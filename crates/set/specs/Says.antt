@@ -1,19 +1,9 @@
--- What the walks over the tracks of a bundle say: whether two tracks end alike, and what is left of a set from a record on.
-use Rattle.std.specs.Prelude.{ℕ, ◌-◌, Bool, true, false, List, eqb}
+-- What the walk over the tracks of a bundle says: what is left of a set from a record on.
+use Rattle.std.specs.Prelude.{ℕ, ◌-◌, List}
 use Rattle.rules.specs.Limits.{record_limit}
-use Rattle.rules.specs.Rules.{◌then◌}
+use Rattle.rules.specs.Rules.{◌then◌, Rule}
 use Rattle.rules.specs.Bundle.{tracks_of, records_from}
 use Rattle.rules.specs.Set.{rulings, agree}
-use Rattle.rules.specs.declared.Rule.{Rule}
-use Rattle.rules.specs.declared.Previous.{Previous}
-use Rattle.rules.specs.declared.Previous.TheVariants.{Unset, End}
-
--- whether two tracks end alike: at the same tick, or neither has a fragment
-abbrev pub same_end : Previous → Previous → Bool
-same_end Unset Unset = true
-same_end Unset (End b) = false
-same_end (End a) Unset = false
-same_end (End a) (End b) = eqb b a
 
 -- the tracks from the k-th on, whose record stands at a place
 abbrev pub rest_of : List ℕ → ℕ → ℕ → List (List ℕ)

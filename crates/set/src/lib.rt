@@ -1,102 +1,84 @@
 // The set check: the bundle framed whole, each track by itself, each beside track 0, then room.
 #![tactic(auto)]
 
-ghost use Rattle.std.specs.Prelude.{◌≡◌, ◌+◌, ◌≤◌, length};
-ghost use Rattle.rules.specs.Limits.{byte_limit};
+ghost use Rattle.std.specs.Prelude.{◌≡◌, ◌+◌, ◌≤◌, length, Ok, Err, IfOk, IfErr};
 ghost use Rattle.rules.specs.Rules.{◌then◌, of_track};
-ghost use Rattle.rules.specs.Bundle.{rule24, tracks};
-ghost use Rattle.rules.specs.Set.{agrees, set_outcome};
+ghost use Rattle.rules.specs.Bundle.{tracks};
+ghost use Rattle.rules.specs.Track.{ruling};
+ghost use Rattle.rules.specs.Set.{track0, agrees, bundle_ruling, set_outcome};
 ghost use Rattle.rules.specs.Jobs.{Permits};
-ghost use Rattle.rules.specs.declared.Rule.TheVariants.{Holds};
-ghost use Rattle.track.specs.Course.{Known};
 ghost use Rattle.set.specs.Says.{all_of};
 
-use bundle::Bundled;
 use framing::BYTE_LIMIT;
-use rules::{Judged, Mark, Rule, TrackFacts, Verdict};
+use rules::{Mark, Refusal, Rule, Verdict};
+use track::accepted::AcceptedTrack;
 
 pub mod agree;
 
-// What was broken before a track, else what it breaks beside track 0.
-fn also(sofar: Rule, k: u64, s0: &[u8], f0: TrackFacts, s: &[u8], f: TrackFacts) -> Rule
-    requires { Known s0.now f0 × Known s.now f }
-    ensures { result ≡ (sofar then of_track k (agrees s0.now s.now)) }
+// A track by itself, as the k-th of a set.
+fn judge_member(s: &[u8], k: u64) -> Result<AcceptedTrack<'_>, Refusal>
+    ensures accepts { IfOk result (λ a. a.bytes.now ≡ s.now) }
+    ensures refuses { IfErr result (λ e. of_track k (ruling s.now) ≡ Err e) }
 {
-    match sofar {
-        Rule::Breaks { .. } => sofar,
-        Rule::Holds => rules::of_track(k, agree::agrees(s0, f0, s, f)),
+    match AcceptedTrack::judge(s) {
+        Ok(track) => Ok(track),
+        Err(e) => Err(Refusal { track: k, ..e }),
     }
 }
 
+// What was broken before a track, else what it breaks beside track 0.
+fn also(sofar: Rule, k: u64, zeroth: AcceptedTrack<'_>, track: AcceptedTrack<'_>) -> Rule
+    ensures { result ≡ (sofar then of_track k (agrees zeroth.entry.bytes.now track.entry.bytes.now)) }
+{
+    sofar?;
+    rules::of_track(k, agree::agrees(zeroth, track))
+}
+
 // The tracks after track 0, from a place of the bundle on: each by itself, then each beside track 0.
-fn others(b: &[u8], from: usize, s0: &[u8], f0: TrackFacts) -> Rule
-    requires known { Known s0.now f0 }
-    requires from_in_bounds { from ≤ length b.now }
-    ensures { result ≡ all_of b.now s0.now from }
+fn others(b: &[u8], from: usize, zeroth: AcceptedTrack<'_>) -> Rule
+    requires { from ≤ length b.now }
+    ensures { result ≡ all_of b.now zeroth.entry.bytes.now from }
 {
     let mut at = from;
-    let mut k: u64 = 1;
-    let mut sofar = Rule::Holds;
-    while k < bundle::RECORD_LIMIT {
-        let mark = bundle::record_at(b, at);
-        let Mark::Track(n) = mark else {
+    let mut sofar: Rule = Ok(());
+    for k in 1..bundle::RECORD_LIMIT {
+        let Mark::Track(n) = bundle::record_at(b, at) else {
             return sofar;
         };
-        let a = at + 6;
-        let e = a + n;
-        let s = &b[a..e];
-        match track::judge(s) {
-            Judged::Refused { number, place, .. } => {
-                return Rule::Breaks {
-                    number,
-                    track: k,
-                    place,
-                };
-            }
-            Judged::Accepted(f) => {
-                sofar = also(sofar, k, s0, f0, s, f);
-                at = e;
-                k += 1;
-            }
-        }
+        let end = at + 6 + n;
+        let track = judge_member(&b[at + 6..end], k)?;
+        sofar = also(sofar, k, zeroth, track);
+        at = end;
     }
     sofar
 }
 
-// The tracks of a framed bundle, then room.
-fn members(b: &[u8], t: &mut [u64]) -> Verdict
-    requires { (length b.now ≤ byte_limit) × (rule24 b.now ≡ Holds) × (1 ≤ length (tracks b.now)) }
-    ensures { Permits set_outcome b.now t.old result t.new }
+// Every rule of a bundle but room: framed whole, every track, every track beside track 0, which is what is accepted.
+fn judge_set(b: &[u8]) -> Result<AcceptedTrack<'_>, Refusal>
+    ensures accepts { IfOk result (λ a. (bundle_ruling b.now ≡ Ok tt) × (a.bytes.now ≡ track0 (tracks b.now))) }
+    ensures refuses { IfErr result (λ e. bundle_ruling b.now ≡ Err e) }
 {
-    let mark = bundle::record_at(b, 0);
-    let Mark::Track(n) = mark else {
-        return rules::refusal(24, 0, 0);
-    };
-    let a = 6;
-    let e = a + n;
-    let s0 = &b[a..e];
-    match track::judge(s0) {
-        Judged::Refused { number, place, .. } => rules::refusal(number, 0, place),
-        Judged::Accepted(f0) => match others(b, e, s0, f0) {
-            Rule::Breaks {
-                number,
-                track,
-                place,
-            } => rules::refusal(number, track, place),
-            Rule::Holds => track::accept(s0, f0, t),
-        },
+    if BYTE_LIMIT < b.len() {
+        return Err(Refusal::new(1, 0, 0));
     }
+    if let Err(bad) = bundle::frame_records(b) {
+        return Err(Refusal::new(24, bad.track, bad.place));
+    }
+    let Mark::Track(n) = bundle::record_at(b, 0) else {
+        return Err(Refusal::new(24, 0, 0));
+    };
+    let end = 6 + n;
+    let zeroth = judge_member(&b[6..end], 0)?;
+    others(b, end, zeroth)?;
+    Ok(zeroth)
 }
 
 // The set job: the bundle framed whole, every track, every track beside track 0, then room, and the boundaries.
 pub fn set_job(b: &[u8], t: &mut [u64]) -> Verdict
     ensures { Permits set_outcome b.now t.old result t.new }
 {
-    if BYTE_LIMIT < b.len() {
-        return rules::refusal(1, 0, 0);
-    }
-    match bundle::frame_records(b) {
-        Bundled::Broken { track, place } => rules::refusal(24, track, place),
-        Bundled::Good(_) => members(b, t),
+    match judge_set(b) {
+        Ok(zeroth) => zeroth.accept(t),
+        Err(e) => Verdict::from(e),
     }
 }

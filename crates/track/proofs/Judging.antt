@@ -1,29 +1,26 @@
 -- Laws of the walk along the top level: what is left of framing and of the course, and what the whole comes to.
 use mathlib.Core.Path.{◌≡◌, refl, sym, ap, ◌∙◌}
 use mathlib.Core.List.{List, []}
-use Prim.Native.Nat.{ℕ, ◌+◌, ◌-◌, ◌≤◌, ◌<◌}
+use Prim.Native.Nat.{ℕ, ◌+◌, ◌-◌, ◌≤◌}
 use native.Mathlib.Nat.{sub_self}
 use native.Mathlib.Omega.{arith}
 use lib.ListN.{length, take, drop}
-use borrow.Author.Tests.{le-leb, lt-leb}
+use lib.Dec.{leb}
+use borrow.Author.Tests.{le-leb, leb-true}
 use Rattle.rules.specs.Limits.{byte_limit}
 use Rattle.rules.specs.Boxes.{Box, look, boxes, forest, whole}
 use Rattle.rules.specs.Framing.{framing, framed, framing_rule}
 use Rattle.rules.specs.Track.{rule1, ruling}
 use Rattle.rules.specs.Course.{judged_by, spot_of, and_box, waiting, course_from, course_end, course_of, facts_of, judgement}
-use Rattle.rules.specs.declared.Course.{Course}
-use Rattle.rules.specs.declared.Course.TheVariants.{On, Broken}
-use Rattle.rules.specs.declared.Framing.TheVariants.{Framed, Misframed}
-use Rattle.rules.specs.declared.Judged.{Judged}
-use Rattle.rules.specs.declared.Judged.TheVariants.{Refused}
+use Rattle.rules.specs.declared.Refusal.{Refusal}
+use Rattle.rules.specs.Rules.{Course, Judged, Rule, must, breaks, unframed}
+use Rattle.std.specs.Prelude.{Ok, Err}
 use Rattle.rules.specs.declared.Look.TheVariants.{Good}
 use Rattle.rules.specs.declared.Path.TheVariants.{Top}
 use Rattle.rules.specs.declared.Reached.TheVariants.{Start, Typed, Headed, Halved, Paired}
-use Rattle.rules.specs.declared.Rule.{Rule}
-use Rattle.rules.specs.declared.Rule.TheVariants.{Holds}
 use Rattle.rules.proofs.Forest.{look_found, boxes_box}
 use Rattle.rules.proofs.OnePass.{one_pass}
-use Rattle.rules.proofs.Then.{then_holds, then_breaks, must_true, must_false}
+use Rattle.rules.proofs.Then.{then_holds, then_breaks, must_true, must_holds}
 use Rattle.boxes.proofs.Stands.{stands_here}
 use Rattle.track.specs.Course.{CourseFits, waits_from}
 use Rattle.track.proofs.OwnBytes.{own_bytes, own_length, own_whole}
@@ -32,17 +29,20 @@ use Rattle.track.proofs.Stepping.{judged_breaks, FitsAt, few_later, fits_box}
 -- the walk stands at a place, after n boxes, with a course: the whole comes to what is left
 pub record Walking (s : List ℕ) (at n : ℕ) (c : Course) : Type 0 where
   pub framing : framed s ≡ framing (forest Top s at) 0 n
-  pub course : course_from s (On Start) (boxes s 0) ≡ course_from s c (boxes s at)
+  pub course : course_from s (Ok Start) (boxes s 0) ≡ course_from s c (boxes s at)
   pub fits : FitsAt s c at
   pub inner : at ≤ length s
 
-pub walking_begins : (s : List ℕ) → Walking s 0 0 (On Start)
+pub walking_begins : (s : List ℕ) → Walking s 0 0 (Ok Start)
 walking_begins s = record { framing = refl; course = refl; fits = tt; inner = omega arith }
 
 -- over the byte limit
-pub over_limit : (s : List ℕ) → byte_limit < length s → Refused 1 0 0 ≡ judgement s
+pub over_limit : (s : List ℕ) {r : Rule} → r ≡ must (leb (length s) byte_limit) 1 0 → {e : Refusal} → r ≡ Err e → Err e ≡ judgement s
 unfolding judgement ruling rule1
-over_limit s h = sym (judged_breaks (facts_of s) (then_breaks _ (must_false 1 0 (lt-leb (length s) byte_limit h))))
+over_limit s m i = sym (judged_breaks (facts_of s) (then_breaks _ (sym m ∙ i)))
+
+pub within_limit : (s : List ℕ) {r : Rule} → r ≡ must (leb (length s) byte_limit) 1 0 → r ≡ Ok tt → length s ≤ byte_limit
+within_limit s m i = leb-true (length s) byte_limit (must_holds _ 1 0 (sym m ∙ i))
 
 -- the bytes of the `moof` that waits before a place: from where it begins
 module _ (s : List ℕ) (at : ℕ) where
@@ -53,29 +53,29 @@ module _ (s : List ℕ) (at : ℕ) where
   none_between = rw sub_self
 
   waits_bytes : (c : Course) → FitsAt s c at → between (waits_from c at) ≡ waiting s c
-  waits_bytes (On Start) h = none_between
-  waits_bytes (On (Typed f)) h = none_between
-  waits_bytes (On (Headed j)) h = none_between
-  waits_bytes (On (Halved j m)) h = own_bytes s m h.1 at h.2
-  waits_bytes (On (Paired j)) h = none_between
-  waits_bytes (Broken p) h = none_between
+  waits_bytes (Ok Start) h = none_between
+  waits_bytes (Ok (Typed f)) h = none_between
+  waits_bytes (Ok (Headed j)) h = none_between
+  waits_bytes (Ok (Halved j m)) h = own_bytes s m h.1 at h.2
+  waits_bytes (Ok (Paired j)) h = none_between
+  waits_bytes (Err p) h = none_between
 
   waits_before : (c : Course) → FitsAt s c at → waits_from c at ≤ at
-  waits_before (On Start) h = omega arith
-  waits_before (On (Typed f)) h = omega arith
-  waits_before (On (Headed j)) h = omega arith
-  waits_before (On (Halved j m)) h = omega (arith, h.2)
-  waits_before (On (Paired j)) h = omega arith
-  waits_before (Broken p) h = omega arith
+  waits_before (Ok Start) h = omega arith
+  waits_before (Ok (Typed f)) h = omega arith
+  waits_before (Ok (Headed j)) h = omega arith
+  waits_before (Ok (Halved j m)) h = omega (arith, h.2)
+  waits_before (Ok (Paired j)) h = omega arith
+  waits_before (Err p) h = omega arith
 
   waits_fit : at ≤ byte_limit → (c : Course) → FitsAt s c at → CourseFits (between (waits_from c at)) c
-  waits_fit l (On Start) h = tt
-  waits_fit l (On (Typed f)) h = tt
-  waits_fit l (On (Headed j)) h = few_later j at byte_limit l h
-  waits_fit l (On (Halved j m)) h =
+  waits_fit l (Ok Start) h = tt
+  waits_fit l (Ok (Typed f)) h = tt
+  waits_fit l (Ok (Headed j)) h = few_later j at byte_limit l h
+  waits_fit l (Ok (Halved j m)) h =
       (few_later j at byte_limit l h.0, own_whole s m h.1 at h.2, omega (arith, own_length s m h.1 at h.2, h.2), omega (arith, h.2))
-  waits_fit l (On (Paired j)) h = few_later j at byte_limit l h
-  waits_fit l (Broken p) h = tt
+  waits_fit l (Ok (Paired j)) h = few_later j at byte_limit l h
+  waits_fit l (Err p) h = tt
 
 module _ (s : List ℕ) {at n : ℕ} {c : Course} (g : Walking s at n c) where
   -- the bytes of the `moof` that waits
@@ -102,12 +102,12 @@ module _ (s : List ℕ) {at n : ℕ} {c : Course} (g : Walking s at n c) where
       })
 
   module _ (h : length s ≤ byte_limit) where
-    short : rule1 (length s) ≡ Holds
+    short : rule1 (length s) ≡ Ok tt
     unfolding rule1
     short = must_true 1 0 (le-leb (length s) byte_limit h)
 
     -- no box is left
-    pub walking_ends : framing (forest Top s at) 0 n ≡ Framed n → boxes s at ≡ [] → {r : Judged} → r ≡ course_end (length s) c → r ≡ judgement s
+    pub walking_ends : framing (forest Top s at) 0 n ≡ Ok n → boxes s at ≡ [] → {r : Judged} → r ≡ course_end (length s) c → r ≡ judgement s
     unfolding course_from course_of judgement ruling
     walking_ends e l w =
         w
@@ -116,6 +116,6 @@ module _ (s : List ℕ) {at n : ℕ} {c : Course} (g : Walking s at n c) where
         ∙ ap (λ (r : Rule). judged_by r (facts_of s)) (sym (then_holds _ short ∙ then_holds _ (ap framing_rule (g.framing ∙ e))))
 
     -- a box is misframed
-    pub walking_breaks : {k p : ℕ} → framing (forest Top s at) 0 n ≡ Misframed k p → Refused k 0 p ≡ judgement s
+    pub walking_breaks : {k p : ℕ} → framing (forest Top s at) 0 n ≡ unframed k p → breaks k 0 p ≡ judgement s
     unfolding judgement ruling
     walking_breaks e = sym (judged_breaks (facts_of s) (then_holds _ short ∙ then_breaks _ (ap framing_rule (g.framing ∙ e))))

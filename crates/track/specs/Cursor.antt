@@ -1,10 +1,9 @@
 -- What the cursor over a track's fragments answers.
-use Rattle.std.specs.Prelude.{ℕ, ◌≤◌, ◌<◌, ◌≡◌, Bool, true, List, [], ◌∷◌, length}
+use Rattle.std.specs.Prelude.{ℕ, ◌≤◌, ◌<◌, ◌≡◌, Bool, true, List, [], ◌∷◌, length, Option, Some, None}
 use Rattle.rules.specs.Track.{chunks_from, start_at, sync_at, begun_among, first_moofs}
 use Rattle.rules.specs.Course.{each_sync}
 use Rattle.rules.specs.declared.Header.{Header}
-use Rattle.track.specs.declared.cursor.Cursor.{Cursor}
-use Rattle.track.specs.declared.cursor.Cursor.TheVariants as cursor
+use Rattle.track.specs.declared.cursor.Fragment.{Fragment}
 
 -- where fragments begin from a place on, behind others
 unfoldable pub begun_from : List ℕ → Header → ℕ → List ℕ
@@ -23,6 +22,6 @@ pub record NextAt (s : List ℕ) (h : Header) (at p q v : ℕ) : Type 0 where
   pub sync : (plain : Bool) → EachSync plain s h at → EachSync plain s h q
 
 -- the next fragment from a place on, or none
-abbrev pub IsNextFragment : Cursor → List ℕ → Header → ℕ → Type 0
-IsNextFragment (cursor.At p q v) s h at = NextAt s h at p q v
-IsNextFragment cursor.Done s h at = begun_from s h at ≡ []
+abbrev pub IsNextFragment : Option Fragment → List ℕ → Header → ℕ → Type 0
+IsNextFragment (Some f) s h at = NextAt s h at f.place f.next f.start
+IsNextFragment None s h at = begun_from s h at ≡ []

@@ -1,5 +1,6 @@
 // One cursor over the fragments of an accepted track.
-ghost use Rattle.std.specs.Prelude.{◌≡◌, true, ◌≤◌, length};
+ghost use Rattle.std.specs.Prelude.{◌≡◌, ◌-◌, ◌≤◌, true, length, OnSome, IfSome};
+ghost use Rattle.std.specs.Iterator.{at_most};
 ghost use Rattle.rules.specs.Limits.{byte_limit};
 ghost use Rattle.rules.specs.Chunk.{traf_in, sync_in};
 ghost use Rattle.boxes.specs.Stands.{StandsAt};
@@ -9,16 +10,24 @@ use boxes::kinds::MOOF;
 use chunk::again;
 use rules::{Defaults, Header, Look, Spot};
 
-// A fragment, with the place of its first `moof`, where the walk goes on behind that, and its start; or no fragment more. It ends where the next
-// one starts, the last one at the track's last end.
+// A fragment: the place of its first `moof`, where the walk goes on behind that, and its start. It ends where the next one starts, the last one at
+// the track's last end.
 #[derive(Clone, Copy)]
-pub enum Cursor {
-    At {
-        place: usize,
-        next: usize,
-        start: u64,
-    },
-    Done,
+pub struct Fragment {
+    pub place: usize,
+    pub next: usize,
+    pub start: u64,
+}
+
+// The fragments that begin in a track from a place on, by what the header tells and whether it is known that each chunk begins one.
+#[derive(Clone, Copy)]
+pub struct Fragments<'a> {
+    pub bytes: &'a [u8],
+    pub header: Header,
+    pub plain: bool,
+    pub at: usize,
+    pub ghost small: { length bytes.now ≤ byte_limit },
+    pub ghost each_sync: { EachSync plain bytes.now header at },
 }
 
 // Whether a chunk begins a fragment behind others, by the bytes of its `moof`; where it is known that all do, nothing is read.
@@ -27,36 +36,44 @@ fn leads(m: &[u8], traf: Spot, d: Defaults, plain: bool) -> bool
     requires d_value { plain ≡ true → sync_in m.now d ≡ true }
     ensures { result ≡ sync_in m.now d }
 {
-    if plain {
-        return true;
-    }
-    again::sync_in(m, traf, d)
+    plain || again::sync_in(m, traf, d)
 }
 
 // The next fragment that begins from a place on, by what the header tells and whether it is known that each chunk begins one.
-pub fn next_fragment(s: &[u8], at: usize, h: Header, plain: bool) -> Cursor
+pub fn next_fragment(s: &[u8], at: usize, h: Header, plain: bool) -> Option<Fragment>
     requires { (length s.now ≤ byte_limit) × EachSync plain s.now h at }
     ensures { IsNextFragment result s.now h at }
 {
     let mut here = at;
-    loop {
-        let l = boxes::look(s, here);
-        let Look::Good { head, size, kind } = l else {
-            return Cursor::Done;
-        };
+    while let Look::Good { head, size, kind } = boxes::look(s, here) {
         let next = here + size;
         if kind == MOOF {
             let m = &s[here..next];
             let traf = again::traf_in(m, head);
             if leads(m, traf, h.defaults, plain) {
                 let start = again::start_in(m, traf);
-                return Cursor::At {
+                return Some(Fragment {
                     place: here,
                     next,
                     start,
-                };
+                });
             }
         }
         here = next;
+    }
+    None
+}
+
+impl<'a> Iterator for Fragments<'a> {
+    type Item = Fragment;
+
+    ghost remaining = { λ s. at_most (length s.bytes.now - s.at) };
+
+    ghost next_gives = { λ s r t. IsNextFragment r s.bytes.now s.header s.at × (t.bytes.now ≡ s.bytes.now) × (t.header ≡ s.header) × (t.plain ≡ s.plain) × IfSome r (λ f. t.at ≡ f.next) };
+
+    fn next(&mut self) -> Option<Fragment> {
+        let fragment = next_fragment(self.bytes, self.at, self.header, self.plain)?;
+        self.at = fragment.next;
+        Some(fragment)
     }
 }

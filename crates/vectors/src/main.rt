@@ -11,45 +11,57 @@ ghost use Rattle.vectors.specs.Tables.{FilledTo, sum_of};
 
 use framing::BOX_LIMIT;
 use lines::ANSWER_ROOM;
+use numbers::BigEndian;
 use pieces::state::NUMBERS;
 use pieces::{GATHER_LIMIT, HEAD};
 use printed::{INPUT_LIMIT, TEXT_ROOM};
 use rules::Verdict;
 use std::io::Read;
 
+// What a case asks for: the line of a job, what a program prints, or empty boxes before the next case.
+#[derive(Clone, Copy)]
+enum Case {
+    Index,
+    Track,
+    // Each byte that names no other job; the line has the byte.
+    Set(u8),
+    Intake,
+    InPieces,
+    Boxes,
+}
+
+impl From<u8> for Case {
+    fn from(byte: u8) -> Case {
+        match byte {
+            0 => Case::Index,
+            1 => Case::Track,
+            3 => Case::Intake,
+            4 => Case::InPieces,
+            5 => Case::Boxes,
+            _ => Case::Set(byte),
+        }
+    }
+}
+
 // Fills a table with i * 7 + 1 at each i.
 fn fill(t: &mut [u64])
     ensures { FilledTo t.new (length t.old) }
 {
-    let mut i = 0;
-    while i < t.len() {
-        t[i] = i as u64 * 7 + 1;
-        i += 1;
+    for (i, x) in t.iter_mut().enumerate() {
+        *x = i as u64 * 7 + 1;
     }
 }
 
-// The sum over a table, h = (h * 31 + t[i]) mod 1000000007 from 0.
+// The sum over a table, h = (h * 31 + x) mod 1000000007 from 0.
+#[tactic(auto, using(crate::proofs::Tables::summed), unfolding(crate::specs::Tables::sum_of))]
 fn sum_of(t: &[u64]) -> u64
     ensures { result ≡ sum_of (length t.now) t.now }
 {
     let mut h = 0;
-    let mut i = 0;
-    while i < t.len() {
-        h = (h * 31 + t[i] % 1000000007) % 1000000007;
-        i += 1;
+    for x in t {
+        h = (h * 31 + x % 1000000007) % 1000000007;
     }
     h
-}
-
-// The verdict of a job.
-fn run_job(job: u8, s: &[u8], t: &mut [u64]) -> Verdict {
-    if job == 0 {
-        return framing::index_job(s, t);
-    }
-    if job == 1 {
-        return track::track_job(s, t);
-    }
-    set::set_job(s, t)
 }
 
 // Prints what the program `intake` prints.
@@ -59,133 +71,102 @@ fn print_text(rt: &impl Print, s: &[u8]) {
     let _ = rt.write_all(&text[..n]);
 }
 
-// Feeds a track in pieces of so many bytes, the last one shorter, or in one piece for 0.
-fn feed_cut(
-    numbers: &mut [u64; NUMBERS],
-    head: &mut [u8; HEAD],
-    kept: &mut [u8; GATHER_LIMIT],
-    s: &[u8],
-    cut: usize,
-) {
-    if cut == 0 {
-        pieces::feed(numbers, head, kept, s);
-        return;
-    }
-    let mut at = 0;
-    while cut < s.len() - at {
-        pieces::feed(numbers, head, kept, &s[at..at + cut]);
-        at += cut;
-    }
-    pieces::feed(numbers, head, kept, &s[at..]);
-}
-
-// Prints what the program `stream` prints for a track that comes in pieces of so many bytes, or in one piece for 0.
+// Prints what the program `stream` prints for a track that comes in pieces of so many bytes, the last one shorter, or in one piece for 0.
 fn print_answer(rt: &impl Print, s: &[u8], cut: usize) {
     let mut numbers = [0u64; NUMBERS];
     let mut head = [0u8; HEAD];
     let mut kept = [0u8; GATHER_LIMIT];
     pieces::start(&mut numbers);
-    feed_cut(&mut numbers, &mut head, &mut kept, s, cut);
+    if cut == 0 {
+        pieces::feed(&mut numbers, &mut head, &mut kept, s);
+    } else {
+        for piece in s.chunks(cut) {
+            pieces::feed(&mut numbers, &mut head, &mut kept, piece);
+        }
+    }
     let mut text = [0u8; ANSWER_ROOM];
     let n = lines::answer_lines(pieces::finish(&numbers, &head, &kept), &mut text);
     let _ = rt.write_all(&text[..n]);
 }
 
-// Runs a case with a table and prints its line, or its text.
-fn print_case(rt: &impl Print, job: u8, s: &[u8], t: &mut [u64]) {
-    if job == 3 {
-        print_text(rt, s);
-        return;
-    }
+// Runs a job with a table and prints its line, that begins with the job's number.
+fn print_line<F: Fn(&[u8], &mut [u64]) -> Verdict>(
+    rt: &impl Print,
+    number: u8,
+    job: F,
+    s: &[u8],
+    t: &mut [u64],
+)
+    requires { F.IsAlwaysCallable job }
+{
     fill(t);
-    let v = run_job(job, s, t);
+    let v = job(s, t);
     let mut line = [0u8; 160];
-    let n = lines::case_line(job as u64, v, sum_of(t), &mut line);
+    let n = lines::case_line(u64::from(number), v, sum_of(t), &mut line);
     let _ = rt.write_all(&line[..n]);
 }
 
-// Runs a case and prints what it comes to; answers whether the table has its room.
-fn run_case(rt: &impl Print, job: u8, room: usize, s: &[u8], table: &mut [u64]) -> bool {
-    if job == 4 {
-        print_answer(rt, s, room);
-        return true;
+// Puts so many empty boxes `free` behind the first n bytes; answers where they end, or nothing where they don't fit.
+fn put_boxes(bytes: &mut [u8], n: usize, boxes: usize) -> Option<usize> {
+    let (slots, _) = bytes.get_mut(n..)?.as_chunks_mut::<8>();
+    for slot in slots.get_mut(..boxes)? {
+        *slot = *b"\0\0\0\x08free";
     }
-    if table.len() < room {
-        return false;
-    }
-    print_case(rt, job, s, &mut table[..room]);
-    true
+    Some(n + boxes * 8)
 }
 
-// What a case leaves: so many bytes before those of the next one; or no case was there, or none that the program can take.
-#[derive(Clone, Copy)]
-enum Left {
-    Held(usize),
-    NoCase,
+// Runs a case of so many bytes and prints what it comes to; answers how many bytes are held before those of the next one, or nothing where the
+// table has not its room or the boxes don't fit.
+fn run_case(
+    rt: &impl Print,
+    job: Case,
+    room: usize,
+    bytes: &mut [u8],
+    size: usize,
+    table: &mut [u64],
+) -> Option<usize> {
+    let s = bytes.get(..size)?;
+    match job {
+        Case::Boxes => return put_boxes(bytes, size, room),
+        Case::InPieces => print_answer(rt, s, room),
+        Case::Intake => {
+            table.get(..room)?;
+            print_text(rt, s);
+        }
+        Case::Index => print_line(rt, 0, framing::index_job, s, table.get_mut(..room)?),
+        Case::Track => print_line(rt, 1, track::track_job, s, table.get_mut(..room)?),
+        Case::Set(byte) => print_line(rt, byte, set::set_job, s, table.get_mut(..room)?),
+    }
+    Some(0)
 }
 
-// Puts so many empty boxes `free` behind the first n bytes, where they fit.
-fn put_boxes(bytes: &mut [u8], n: usize, boxes: usize) -> Left {
-    if bytes.len() < n {
-        return Left::NoCase;
-    }
-    if (bytes.len() - n) / 8 < boxes {
-        return Left::NoCase;
-    }
-    let empty = b"\0\0\0\x08free";
-    let end = n + boxes * 8;
-    let mut at = n;
-    while at < end {
-        bytes[at] = empty[(at - n) % 8];
-        at += 1;
-    }
-    Left::Held(end)
-}
-
-// Reads a case behind the bytes that are held, and prints what it comes to.
+// Reads a case behind the bytes that are held, and prints what it comes to; answers how many bytes are held before those of the next one, or
+// nothing where no case is there, or none that the program can take.
 fn next_case(
     rt: &impl Print,
     stdin: &mut impl Read,
     bytes: &mut [u8],
     held: usize,
     table: &mut [u64],
-) -> Left {
+) -> Option<usize> {
     let mut head = [0u8; 9];
-    if stdin.read_exact(&mut head).is_err() {
-        return Left::NoCase;
-    }
-    let room = numbers::be4(&head, 1) as usize;
-    let size = numbers::be4(&head, 5) as usize;
-    if bytes.len() < held {
-        return Left::NoCase;
-    }
-    if bytes.len() - held < size {
-        return Left::NoCase;
-    }
-    let end = held + size;
-    if stdin.read_exact(&mut bytes[held..end]).is_err() {
-        return Left::NoCase;
-    }
-    if head[0] == 5 {
-        return put_boxes(bytes, end, room);
-    }
-    if !run_case(rt, head[0], room, &bytes[..end], table) {
-        return Left::NoCase;
-    }
-    Left::Held(0)
+    stdin.read_exact(&mut head).ok()?;
+    let room = u32::read(&head, 1) as usize;
+    let size = u32::read(&head, 5) as usize;
+    stdin
+        .read_exact(bytes.get_mut(held..)?.get_mut(..size)?)
+        .ok()?;
+    run_case(rt, Case::from(head[0]), room, bytes, held + size, table)
 }
 
-// Runs every case to the end of the input. A proved loop has to end, and nothing says that an input does: the loop counts
-// its turns down, from a number that no run uses up.
+// Runs every case to the end of the input. A proved loop has to end, and nothing says that an input does: the loop has more turns than a run uses up.
 fn run_cases(rt: &impl Print, stdin: &mut impl Read, bytes: &mut [u8], table: &mut [u64]) {
     let mut held = 0;
-    let mut turns = u64::MAX;
-    while turns > 0 {
-        let Left::Held(n) = next_case(rt, stdin, bytes, held, table) else {
+    for _ in 0..u64::MAX {
+        let Some(n) = next_case(rt, stdin, bytes, held, table) else {
             return;
         };
         held = n;
-        turns -= 1;
     }
 }
 

@@ -1,5 +1,6 @@
 -- `chunk::in_traf` meets its contract. Assumes nothing.
 use mathlib.Core.Path.{sym, ◌∙◌}
+use Rattle.std.proofs.lemmas.Result.{err_from_is_err_and}
 use Rattle.rules.specs.Kinds.{tfhd, tfdt, trun}
 use Rattle.rules.specs.Chunk.{tfhd_in, tfdt_in, first_run}
 use Rattle.rules.specs.declared.Entry.TheVariants.{One, OneOrMore}
@@ -14,7 +15,6 @@ read-requires c =
     let m = a.m.now in
     let t = c.requires.stands_at.1 in (
       c.requires.m_len_bound.0,
-      c.requires.m_len_bound.1,
       record {
         mfhd = c.requires.stands_at.0;
         traf = t;
@@ -22,12 +22,11 @@ read-requires c =
         tfdt = rw (← t.place) (sighted m a.traf.at (One tfdt) n.result.b n.ensures.b);
         run = rw (← t.place) (sighted m a.traf.at (OneOrMore trun) n.result.c n.ensures.c);
       },
-      right_14 m c.requires.m_len_bound.2 (rw (← t.place) (sym n.ensures.rule ∙ c.in-Holds.is)),
+      right_14 m c.requires.m_len_bound.1 (rw (← t.place) (sym n.ensures.rule ∙ c.in_ok-seen.was)),
     )
 
-pub returns-in-Breaks : goal.returns-in-Breaks
-returns-in-Breaks c = let n = c.count_boxes-seen in let a = c.args in
-    let m = a.m.now in
-    let r = counts_break 14 m a.traf.at _ n.result.rule n.ensures.rule n.ensures.low c.in-Breaks.is in
-    broken_traf m a.h a.head a.payload a.prev c.requires.m_len_bound.2
-    (rw (← c.requires.stands_at.1.place) r.0) r.1
+pub returns-in_err-seen : goal.returns-in_err-seen
+returns-in_err-seen c = let n = c.count_boxes-seen in let a = c.args in
+    let b = counts_break 14 a.m.now a.traf.at _ n.result.rule n.ensures.rule n.ensures.low c.in_err-seen.was in
+    let r = err_from_is_err_and c.from_residual.result c.from_residual.ensures.1 in
+    rw (r.1, r.2) (broken_traf a.m.now a.s c.requires.m_len_bound.1 (rw (← c.requires.stands_at.1.place) b))

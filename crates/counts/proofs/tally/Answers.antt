@@ -10,19 +10,19 @@ loop-head-init c = let l = c.requires in
     (going_none _ _ _ _ l, going_none _ _ _ _ l, going_none _ _ _ _ l)
 
 pub returns-in_default : goal.returns-in_default
-returns-in_default c = let o = over _ _ _ c.look-l.ensures.value c.in_default.not-Good in
+returns-in_default c = let o = over _ _ _ c.look.ensures.value c.in_default.not-Good in
     let i = c.loop-head.invariant in
     record { a = going_all i.0 o; b = going_all i.1 o; c = going_all i.2 o }
 
 pub overflow_add-at : goal.overflow_add-at
-overflow_add-at c = omega (arith, found _ _ c.look-l.ensures.value c.in-Good.is)
+overflow_add-at c = omega (arith, found _ _ c.look.ensures.value c.in-Good.is)
 
 pub loop-head-smaller : goal.loop-head-smaller
-loop-head-smaller c = omega (arith, found _ _ c.look-l.ensures.value c.in-Good.is)
+loop-head-smaller c = omega (arith, found _ _ c.look.ensures.value c.in-Good.is)
 
 pub loop-head-preserved : goal.loop-head-preserved
 loop-head-preserved c = let i = c.loop-head.invariant in
-    let e = c.look-l.ensures.value in
+    let e = c.look.ensures.value in
     let t = c.in-Good.is in (
       elim c.if-wanted.branch [
         | then-wanted y ↦ going_hit _ _ e t i.0 (sym c.wanted.ensures ∙ y.if-wanted.true) y.again_at-u.ensures y.u-is

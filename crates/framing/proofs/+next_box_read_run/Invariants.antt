@@ -10,8 +10,8 @@ decreases-next_box l = 2 * (length l.s.now - l.at)
 abbrev pub decreases-read_run : goal.decreases-read_run
 decreases-read_run l = 2 * length l.s.now + 1
 
-abbrev pub invariant-read_run-loop-size : goal.invariant-read_run-loop-size
-invariant-read_run-loop-size l = (framing (forest l.path l.s 0) l.base l.n ≡ framing (forest l.path l.s l.at) l.base l.count) × (l.at ≤ length l.s)
+abbrev pub invariant-read_run-loop-past : goal.invariant-read_run-loop-past
+invariant-read_run-loop-past l = (framing (forest l.path l.s 0) l.base l.n ≡ framing (forest l.path l.s l.at) l.base l.count) × (l.at ≤ length l.s)
 
-abbrev pub decreases-read_run-loop-size : goal.decreases-read_run-loop-size
-decreases-read_run-loop-size l = length l.s - l.at
+abbrev pub decreases-read_run-loop-past : goal.decreases-read_run-loop-past
+decreases-read_run-loop-past l = length l.s - l.at

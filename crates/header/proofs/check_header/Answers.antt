@@ -1,21 +1,16 @@
 -- `header::check_header` meets its contract. Assumes nothing.
 use mathlib.Core.Path.{sym, ◌∙◌}
+use Rattle.std.proofs.lemmas.Result.{err_from_is_err_and}
 use Rattle.header.proofs.Checked.{seven_breaks, ftyp_wrong}
 use Rattle.header.proofs.check_header.Goals as goal
 
+pub returns-in_err-s : goal.returns-in_err-s
+returns-in_err-s c =
+    let met = seven_breaks _ _ c.locate_boxes-s.ensures.rule c.in_err-s.was in
+    let r = err_from_is_err_and c.from_residual.result c.from_residual.ensures.1 in
+    rw (r.1, r.2) (record { heads_as = met.0; heads_up_to = met.1 })
+
 pub returns-in_default : goal.returns-in_default
 returns-in_default c =
-    let met = ftyp_wrong _ (sym c.locate_boxes-s.ensures.rule.is ∙ c.in-Holds.is) in
+    let met = ftyp_wrong _ (sym c.locate_boxes-s.ensures.rule.is ∙ c.in_ok-s.was) in
     record { heads_as = rw c.in_default.is met.0; heads_up_to = met.1 }
-
-pub check_bodies-requires : goal.check_bodies-requires
-check_bodies-requires c = let h = c.locate_boxes-s.ensures in (h, sym h.rule.is ∙ c.in-Holds.is)
-
-pub returns-in-Breaks : goal.returns-in-Breaks
-returns-in-Breaks c =
-    let met = seven_breaks _ _ c.locate_boxes-s.ensures.rule c.in-Breaks.is in
-    record { heads_as = met.0; heads_up_to = met.1 }
-
-pub returns-in-Branded : goal.returns-in-Branded
-returns-in-Branded c =
-    record { heads_as = rw c.in-Branded.is c.check_bodies.ensures.heads_as; heads_up_to = c.check_bodies.ensures.heads_up_to }

@@ -1,17 +1,19 @@
 -- A negative number is no place; any other is read as itself. Assumes nothing.
-use mir.Syntax.{w32}
-use mir.ValLaws.{to_z-of_z}
-use Rattle.numbers.proofs.Signs.{plain, no_place, place}
+use Rattle.std.proofs.Common.{◌≡◌, ◌∙◌, ap, refl, ℕ, ℤ, pos, negsuc, Bool, Result, Ok, Err, w32, FitsSigned, ◌<◌, ◌^◌, arith}
+use Rattle.std.proofs.Math.Facts.{to_z-of_z}
+use Rattle.std.specs.Result.{OkIff, result_eq}
+use Rattle.std.specs.Int.{FitsUnsignedBits}
+use lib.Dec.{eqb}
+use lib.IntN.{nat_abs}
+use Rattle.numbers.specs.Numbers.{is_place}
 use Rattle.numbers.proofs.is_place.Goals as goal
 
-pub overflow_cast-result : goal.overflow_cast-result
-overflow_cast-result c =
-    rw (to_z-of_z w32 c.args.o c.ranges.o) (plain c.args.o c.ranges.o (rw (to_z-of_z w32 c.args.o c.ranges.o) at c.if-o-lt0.false))
+place : {E : Type 0} (F : E → E → Bool) (o : ℤ) (e : ℕ) (r : Result ℕ E) → FitsSigned w32 o → OkIff r (FitsUnsignedBits 64 o) (nat_abs o) → result_eq eqb F r (Ok e) ≡ is_place o e
+unfolding is_place
+place F (pos n) e (Ok x) f i = ap (λ k. eqb k e) i.1
+place F (pos n) e (Err x) f i = let s : n < 2 ^ 64 = omega (arith, f.sfits) in absurd (i s)
+place F (negsuc n) e (Ok x) f i = absurd i.0
+place F (negsuc n) e (Err x) f i = refl
 
-pub returns-then-o-lt0 : goal.returns-then-o-lt0
-returns-then-o-lt0 c =
-    no_place c.args.o c.args.e (rw (to_z-of_z w32 c.args.o c.ranges.o) at c.if-o-lt0.true)
-
-pub returns-else-o-lt0 : goal.returns-else-o-lt0
-returns-else-o-lt0 c =
-    rw (to_z-of_z w32 c.args.o c.ranges.o) (place c.args.o c.args.e (rw (to_z-of_z w32 c.args.o c.ranges.o) at c.if-o-lt0.false))
+pub returns : goal.returns
+returns c = c.eq.ensures ∙ place _ c.args.o c.args.e c.try_from.result c.ranges.o (rw (to_z-of_z c.ranges.o) at c.try_from.ensures)

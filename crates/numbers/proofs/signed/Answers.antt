@@ -1,13 +1,8 @@
--- The lower half is itself, the upper half counts down from -1. Assumes nothing.
-use native.Mathlib.Omega.{arith}
-use Rattle.numbers.proofs.Signs.{down_fits, low, high}
+-- The machine reads four bytes' number as `signed` does. Assumes nothing.
+use Rattle.std.proofs.Common.{◌∙◌, w32}
+use Rattle.std.proofs.Math.Facts.{to_z-of_z}
+use Rattle.numbers.proofs.Signs.{is_signed}
 use Rattle.numbers.proofs.signed.Goals as goal
 
-pub overflow_sub-result-else-x-lt2147483648 : goal.overflow_sub-result-else-x-lt2147483648
-overflow_sub-result-else-x-lt2147483648 c = down_fits c.args.x (omega arith)
-
-pub returns-then-x-lt2147483648 : goal.returns-then-x-lt2147483648
-returns-then-x-lt2147483648 c = low c.args.x (omega arith)
-
-pub returns-else-x-lt2147483648 : goal.returns-else-x-lt2147483648
-returns-else-x-lt2147483648 c = high c.args.x (omega arith)
+pub returns : goal.returns
+returns c = to_z-of_z {w = w32} (record { sfits = c.cast_signed.type_inv }) ∙ c.cast_signed.ensures ∙ is_signed c.args.x

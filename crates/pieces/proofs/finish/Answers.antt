@@ -9,7 +9,7 @@ pub returns-then-not-is_sound : goal.returns-then-not-is_sound
 unfolding resume
 returns-then-not-is_sound c =
     rw (← c.decode-st.ensures, ← c.is_sound.ensures, c.if-not-is_sound.true)
-    c.refused_answer.ensures
+    (rw c.new.ensures at c.into.ensures)
 
 pub ended-requires : goal.ended-requires
 ended-requires c =

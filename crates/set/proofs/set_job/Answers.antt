@@ -1,19 +1,14 @@
 -- `set::set_job` meets its contract. Assumes nothing.
 use mathlib.Core.Path.{◌∙◌}
-use native.Mathlib.Omega.{arith}
 use Rattle.track.proofs.Table.{refused_is}
-use Rattle.set.proofs.Outcomes.{bundle_over_limit, badly_framed}
+use Rattle.set.proofs.Outcomes.{set_refuses, set_accepts}
 use Rattle.set.proofs.set_job.Goals as goal
 
-pub returns-then-b-gt-BYTE_LIMIT : goal.returns-then-b-gt-BYTE_LIMIT
-returns-then-b-gt-BYTE_LIMIT c = let a = c.args in
-    refused_is a.t.now 1 0 0 c.refusal.ensures ∙ bundle_over_limit a.b.now a.t.now c.if-b-gt-BYTE_LIMIT.true
+pub returns-in-Ok : goal.returns-in-Ok
+returns-in-Ok c = let a = c.args in
+    let e = c.in-Ok.ensures.accepts in
+    (rw e.1 at c.accept.ensures) ∙ set_accepts a.b.now a.t.now e.0
 
-pub members-requires : goal.members-requires
-members-requires c = let f = rw c.in-Good.is at c.frame_records.ensures in
-    (c.if-b-gt-BYTE_LIMIT.false, f.0, omega (arith, f.1, f.2))
-
-pub returns-in-Broken : goal.returns-in-Broken
-returns-in-Broken c = let a = c.args in
-    refused_is a.t.now 24 _ _ c.refusal-in-Broken.ensures
-    ∙ badly_framed a.b.now a.t.now c.if-b-gt-BYTE_LIMIT.false (rw c.in-Broken.is at c.frame_records.ensures).0
+pub returns-in-Err : goal.returns-in-Err
+returns-in-Err c = let a = c.args in
+    refused_is a.t.now _ _ _ c.from.ensures ∙ set_refuses a.b.now a.t.now c.in-Err.ensures.refuses

@@ -5,10 +5,10 @@ use Rattle.chunk.proofs.again.flags_in.Goals as goal
 
 pub returns-then-has : goal.returns-then-has
 returns-then-has c =
-    flags_own _ c.args.tfhd c.requires.0 c.args.d _ c.be3-flags.ensures.value _ _ (sym c.has.ensures ∙ c.if-has.true)
-    (rw (c.bytes_for.ensures.value, c.bytes_for-then-has.ensures.value, c.bytes_for-then-has-2.ensures.value, c.bytes_for-then-has-3.ensures.value))
-    c.be4.ensures
+    flags_own _ c.args.tfhd c.requires.0 c.args.d _ c.read-flags.ensures _ _ (sym c.has.ensures ∙ c.if-has.true)
+    c.default_offsets.ensures.flags
+    c.read.ensures
 
 pub returns : goal.returns
 returns c =
-    flags_default _ c.args.tfhd c.requires.0 c.args.d _ c.be3-flags.ensures.value (sym c.has.ensures ∙ c.if-has.false)
+    flags_default _ c.args.tfhd c.requires.0 c.args.d _ c.read-flags.ensures (sym c.has.ensures ∙ c.if-has.false)

@@ -1,12 +1,11 @@
 -- `chunk::again::sync_in` meets its contract. Assumes nothing.
-use mathlib.Core.Path.{sym, ap, ◌∙◌}
+use mathlib.Core.Path.{ap, ◌∙◌}
 use Prim.Native.Nat.{ℕ}
-use lib.Seq.{length-take-le}
 use Rattle.rules.specs.Kinds.{tfhd}
 use Rattle.rules.specs.Counts.{child}
 use Rattle.rules.specs.Chunk.{tfhd_in}
 use Rattle.boxes.specs.Stands.{StandsAt}
-use Rattle.chunk.proofs.First.{traf_runs, front_is}
+use Rattle.chunk.proofs.First.{traf_runs}
 use Rattle.chunk.proofs.Formed.{sync_by_flags}
 use Rattle.chunk.proofs.again.sync_in.Goals as goal
 
@@ -21,13 +20,6 @@ place c =
 
 pub flags_in-requires : goal.flags_in-requires
 flags_in-requires c = (place c, c.requires.1)
-
-pub slice_bounds-first_sync-end : goal.slice_bounds-first_sync-end
-slice_bounds-first_sync-end c = sym (length-take-le _ _ c.requires.0.stands.fits)
-
-pub first_sync-requires : goal.first_sync-requires
-first_sync-requires c =
-    (c.requires.1, front_is c.args.m.now _ c.requires.0.stands.fits)
 
 pub returns : goal.returns
 returns c =

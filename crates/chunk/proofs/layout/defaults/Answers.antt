@@ -8,19 +8,19 @@ use Rattle.chunk.proofs.layout.defaults.Goals as goal
 pub own-requires : goal.own-requires
 own-requires c = (
   c.requires.stands_at.stands,
-  λ e. omega (arith, c.requires.flags_value.1, c.bytes_for.ensures.value, c.bytes_for-2.ensures.value, reach_duration c.args.flags (sym c.has.ensures ∙ e)),
+  λ e. omega (arith, c.requires.flags_value.1, c.default_offsets-at.ensures.duration, reach_duration c.args.flags (sym c.has.ensures ∙ e)),
 )
 
 pub own-requires-2 : goal.own-requires-2
 own-requires-2 c = (
   c.requires.stands_at.stands,
-  λ e. omega (arith, c.requires.flags_value.1, c.bytes_for.ensures.value, c.bytes_for-2.ensures.value, c.bytes_for-3.ensures.value, reach_size c.args.flags (sym c.has-2.ensures ∙ e)),
+  λ e. omega (arith, c.requires.flags_value.1, c.default_offsets-at.ensures.size, reach_size c.args.flags (sym c.has-2.ensures ∙ e)),
 )
 
 pub own-requires-3 : goal.own-requires-3
 own-requires-3 c = (
   c.requires.stands_at.stands,
-  λ e. omega (arith, c.requires.flags_value.1, c.bytes_for.ensures.value, c.bytes_for-2.ensures.value, c.bytes_for-3.ensures.value, c.bytes_for-4.ensures.value, reach_flags c.args.flags (sym c.has-3.ensures ∙ e)),
+  λ e. omega (arith, c.requires.flags_value.1, c.default_offsets-at.ensures.flags, reach_flags c.args.flags (sym c.has-3.ensures ∙ e)),
 )
 
 pub returns : goal.returns
@@ -29,10 +29,9 @@ returns c =
     rw (
       ← c.requires.stands_at.place,
       ← c.requires.flags_value.0,
-      ← c.bytes_for.ensures.value,
-      ← c.bytes_for-2.ensures.value,
-      ← c.bytes_for-3.ensures.value,
-      ← c.bytes_for-4.ensures.value,
+      ← c.default_offsets-at.ensures.flags,
+      ← c.default_offsets-at.ensures.size,
+      ← c.default_offsets-at.ensures.duration,
       ← c.has.ensures,
       ← c.has-2.ensures,
       ← c.has-3.ensures,

@@ -1,13 +1,7 @@
 -- `header::bodies::read_least` meets its contract. Assumes nothing.
-use Rattle.header.proofs.Read.{good_body, bad, least_fits}
+use Rattle.header.proofs.Read.{least_fits}
 use Rattle.header.proofs.bodies.read_least.Goals as goal
 
 pub word-requires : goal.word-requires
 word-requires c = let p = c.requires in
     (p.0, least_fits _ _ p.0 _ _ p.1 c.is_at_least.ensures c.if-is_at_least.true)
-
-pub returns-then-is_at_least : goal.returns-then-is_at_least
-returns-then-is_at_least c = (good_body _ _ _ c.is_at_least.ensures c.if-is_at_least.true, c.word.ensures)
-
-pub returns : goal.returns
-returns c = bad _ _ _ c.is_at_least.ensures c.if-is_at_least.false

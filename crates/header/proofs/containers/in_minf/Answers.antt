@@ -6,20 +6,8 @@ use Rattle.rules.specs.Header.{dinf_in, stbl_in}
 use Rattle.rules.specs.declared.Entry.TheVariants.{One}
 use Rattle.counts.proofs.Firsts.{counts_1, counts_2}
 use Rattle.boxes.specs.Stands.{StandsAt}
-use Rattle.header.proofs.Found.{met, judged, judged_join}
+use Rattle.header.proofs.Found.{met, judged, judged_join, joined}
 use Rattle.header.proofs.containers.in_minf.Goals as goal
-
-pub count_boxes-k-requires-2 : goal.count_boxes-k-requires-2
-unfolding dinf_in
-count_boxes-k-requires-2 c = (met c.requires c.count_boxes-k.ensures.b).stands
-
-pub count_boxes-k-requires-3 : goal.count_boxes-k-requires-3
-unfolding stbl_in
-count_boxes-k-requires-3 c = (met c.requires c.count_boxes-k.ensures.c).stands
-
-pub count_boxes-k-requires-4 : goal.count_boxes-k-requires-4
-unfolding stbl_in
-count_boxes-k-requires-4 c = (met c.requires c.count_boxes-k.ensures.c).stands
 
 pub returns : goal.returns
 unfolding dinf_in stbl_in
@@ -32,7 +20,7 @@ returns c = let x = c.requires in
     record {
       minf = judged x i refl;
       dinf = judged d c.count_boxes-k-2.ensures (counts_1 _ _ _ _);
-      stbl = judged_join _ (One stsd ∷ One stts ∷ One stsc ∷ []) (One stsz ∷ One stco ∷ []) c.first_broken.ensures (judged y k refl) (judged y l (counts_2 _ _ _ _ _));
+      stbl = judged_join _ (One stsd ∷ One stts ∷ One stsc ∷ []) (One stsz ∷ One stco ∷ []) (joined _ _ c.and.ensures) (judged y k refl) (judged y l (counts_2 _ _ _ _ _));
       media = met x i.a;
       stsd = met y k.a;
       stts = met y k.b;

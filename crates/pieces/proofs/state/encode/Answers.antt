@@ -1,27 +1,27 @@
 -- `pieces::state::encode` meets its contract. Assumes nothing.
+use borrow.Author.Rules.{rules}
 use Rattle.pieces.specs.State.{state_of, judged_from, facts_from, spot_from}
-use Rattle.pieces.proofs.Numbers24.{low_same}
+use Rattle.pieces.proofs.Numbers24.{low_same, plain_same}
 use Rattle.pieces.proofs.state.encode.Goals as goal
 
-pub returns-in-Refused : goal.returns-in-Refused
+pub returns-in-Err : goal.returns-in-Err
 unfolding state_of judged_from spot_from
-returns-in-Refused c =
-    rw (← c.in-Refused.is, c.of_course-c.ensures, c.of_phase-p.ensures)
+returns-in-Err c = rw (← c.in-Err.is, c.of_course-c.ensures, c.of_phase-p.ensures)
 
-pub returns-in-Accepted : goal.returns-in-Accepted
+pub returns-in-Ok : goal.returns-in-Ok
 unfolding state_of judged_from facts_from spot_from
-returns-in-Accepted c =
+returns-in-Ok c =
     rw (
-      c.of_plain.ensures,
-      low_same _ _ c.wide-in-Accepted-5.ensures,
-      low_same _ _ c.wide-in-Accepted-4.ensures,
-      low_same _ _ c.wide-in-Accepted-3.ensures,
-      low_same _ _ c.wide-in-Accepted-2.ensures,
-      low_same _ _ c.wide-in-Accepted.ensures,
-      low_same _ _ c.wide.ensures,
-      c.of_end-end.ensures,
-      c.of_start-start.ensures,
-      ← c.in-Accepted.is,
+      plain_same c.in-Ok.f.plain _ c.from-in-Ok-6.ensures,
+      low_same _ _ c.from-in-Ok-5.ensures (search rules),
+      low_same _ _ c.from-in-Ok-4.ensures (search rules),
+      low_same _ _ c.from-in-Ok-3.ensures (search rules),
+      low_same _ _ c.from-in-Ok-2.ensures (search rules),
+      low_same _ _ c.from-in-Ok.ensures (search rules),
+      low_same _ _ c.from.ensures (search rules),
+      c.of_tick-end.ensures,
+      c.of_tick-start.ensures,
+      ← c.in-Ok.is,
       c.of_course-c.ensures,
       c.of_phase-p.ensures,
     )

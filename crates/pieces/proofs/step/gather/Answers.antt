@@ -1,37 +1,30 @@
 -- `pieces::step::gather` meets its contract. Assumes nothing.
-use mathlib.Core.Path.{refl, sym, ◌∙◌}
+use mathlib.Core.Path.{sym}
 use native.Mathlib.Omega.{arith}
-use Rattle.pieces.proofs.Heading.{in_bytes, buf_room, gathered_29, gathered_keeps, gathered_whole, gathered_settles}
+use lib.Seq.{length-take-le}
+use Rattle.pieces.proofs.Taking.{copied}
+use Rattle.pieces.proofs.Heading.{in_bytes, gathered_29, gathered_keeps, gathered_whole, gathered_settles}
 use Rattle.pieces.proofs.step.gather.Goals as goal
 
-pub returns-then-size-gt-GATHER_LIMIT : goal.returns-then-size-gt-GATHER_LIMIT
-returns-then-size-gt-GATHER_LIMIT c =
-    record { means_headed = rw c.stop_at.ensures (gathered_29 c.requires c.if-size-gt-GATHER_LIMIT.true); kept_len_unchanged = refl }
+pub returns-then-b-gt-GATHER_LIMIT-clause-means_headed : goal.returns-then-b-gt-GATHER_LIMIT-clause-means_headed
+returns-then-b-gt-GATHER_LIMIT-clause-means_headed c =
+    let g = c.requires in rw (c.stop_at.ensures, g.place) (gathered_29 g c.if-b-gt-GATHER_LIMIT.true)
 
-pub copy_in-requires : goal.copy_in-requires
-copy_in-requires c = let g = c.requires in
-    (omega (arith, in_bytes g, g.whole.bytes, g.whole.ready.room), in_bytes g)
+pub slice_bounds-copy_in-end : goal.slice_bounds-copy_in-end
+slice_bounds-copy_in-end c = sym (length-take-le c.args.b.head c.args.head.now (in_bytes c.requires))
 
 pub settle_box-requires : goal.settle_box-requires
 settle_box-requires c = let g = c.requires in
-    rw (c.beginning-course.ensures, c.copy_in.ensures)
-    (gathered_whole g c.if-size-gt-GATHER_LIMIT.false c.if-size-h.true)
+    rw (c.beginning-course.ensures, g.place, copied c.args.kept.now 0 c.args.head.now c.args.b.head c.copy_in.ensures (in_bytes g)) (gathered_whole g c.if-b-gt-GATHER_LIMIT.false c.if-b.true)
 
-pub returns-then-size-h : goal.returns-then-size-h
-returns-then-size-h c =
+pub returns-then-b-clause-means_headed : goal.returns-then-b-clause-means_headed
+returns-then-b-clause-means_headed c =
     let g = c.requires in
-    let l = c.if-size-gt-GATHER_LIMIT.false in
-    let e = c.copy_in.ensures in
-    record {
-      means_headed = rw e (gathered_settles g l c.if-size-h.true (rw (c.beginning-course.ensures, e) at c.settle_box.ensures));
-      kept_len_unchanged = rw e (buf_room g ∙ sym g.whole.ready.room);
-    }
+    let e = copied c.args.kept.now 0 c.args.head.now c.args.b.head c.copy_in.ensures (in_bytes g) in
+    rw e (gathered_settles g c.if-b-gt-GATHER_LIMIT.false c.if-b.true (rw (c.beginning-course.ensures, g.place, e) at c.settle_box.ensures))
 
-pub returns : goal.returns
-returns c =
+pub returns-clause-means_headed : goal.returns-clause-means_headed
+returns-clause-means_headed c =
     let g = c.requires in
-    let l = c.if-size-gt-GATHER_LIMIT.false in
-    record {
-      means_headed = rw (c.beginning-course.ensures, c.copy_in.ensures) (gathered_keeps g l (omega (arith, g.holds, c.if-size-h.false)));
-      kept_len_unchanged = rw c.copy_in.ensures (buf_room g ∙ sym g.whole.ready.room);
-    }
+    rw (c.beginning-course.ensures, g.place, copied c.args.kept.now 0 c.args.head.now c.args.b.head c.copy_in.ensures (in_bytes g))
+    (gathered_keeps g c.if-b-gt-GATHER_LIMIT.false (omega (arith, g.holds, c.if-b.false)))

@@ -1,12 +1,11 @@
 -- `runs::layout::bytes_for` meets its contract. Assumes nothing.
-use Rattle.std.proofs.Common.{rules}
 use Rattle.rules.specs.Chunk.{bytes_for}
 use Rattle.runs.proofs.layout.bytes_for.Goals as goal
 
-pub returns-then-has : goal.returns-then-has
+pub returns-then-has-clause-value : goal.returns-then-has-clause-value
 unfolding bytes_for
-returns-then-has c = record { value = rw (← c.has.ensures, c.if-has.true); upper_bound = search rules }
+returns-then-has-clause-value c = rw (← c.has.ensures, c.if-has.true)
 
-pub returns-else-has : goal.returns-else-has
+pub returns-else-has-clause-value : goal.returns-else-has-clause-value
 unfolding bytes_for
-returns-else-has c = record { value = rw (← c.has.ensures, c.if-has.false); upper_bound = search rules }
+returns-else-has-clause-value c = rw (← c.has.ensures, c.if-has.false)

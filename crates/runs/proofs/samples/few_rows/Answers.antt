@@ -1,45 +1,25 @@
--- `runs::samples::few_rows` meets its contract. The sums are those of the samples passed, and the place a step on for each of them. Assumes nothing.
-use Rattle.std.proofs.Common.{◌+◌, length, arith}
-use Rattle.runs.specs.Samples.{every_four}
-use Rattle.runs.proofs.Sums.{step_inside, step_none, step_on_lem, summed_none, summed_at, summed_end}
+-- `runs::samples::few_rows` meets its contract. The sums are those of the rows passed. Assumes nothing.
+use Rattle.std.proofs.Common.{◌≡◌, ◌*◌, ◌<◌, length, ◌∙◌, rules, arith}
+use Rattle.runs.proofs.Sums.{summed_one, left_less, left_none}
 use Rattle.runs.proofs.samples.few_rows.Goals as goal
 
-pub loop-i-init : goal.loop-i-init
-loop-i-init c = let a = c.args in (
-  omega arith,
-  step_none a.from a.step,
-  summed_none (every_four a.m.now a.from a.step),
-  summed_none (every_four a.m.now (a.from + 4) a.step),
-)
-
-pub near4-requires : goal.near4-requires
-near4-requires c = let a = c.args in
-    omega (arith, step_inside a.from a.step a.n c.loop-i.i (length a.m.now) c.loop-i-test.true c.requires.2)
-
-pub overflow_add-p : goal.overflow_add-p
-overflow_add-p c =
-    let a = c.args in
-    omega (arith, step_inside a.from a.step a.n c.loop-i.i (length a.m.now) c.loop-i-test.true c.requires.2)
-
-pub near4-requires-in-loop-i : goal.near4-requires-in-loop-i
-near4-requires-in-loop-i c = let a = c.args in
-    omega (arith, step_inside a.from a.step a.n c.loop-i.i (length a.m.now) c.loop-i-test.true c.requires.2)
-
-pub overflow_add-p-in-loop-i : goal.overflow_add-p-in-loop-i
-overflow_add-p-in-loop-i c =
-    let a = c.args in
-    omega (arith, step_inside a.from a.step a.n c.loop-i.i (length a.m.now) c.loop-i-test.true c.requires.2)
-
-pub loop-i-preserved : goal.loop-i-preserved
-loop-i-preserved c = let a = c.args in
-    let l = c.loop-i in
-    let x = c.near4 in (
-      omega arith,
-      step_on_lem a.from a.step l.i l.p l.invariant.1,
-      summed_at a.m.now a.from a.step l.i l.ticks l.p x.result l.invariant.2 l.invariant.1 x.ensures (omega (arith, x.type_inv)),
-      summed_at a.m.now (a.from + 4) a.step l.i l.bytes (l.p + 4) c.near4-in-loop-i.result l.invariant.3 (omega (arith, l.invariant.1)) c.near4-in-loop-i.ensures (omega (arith, c.near4-in-loop-i.type_inv)),
+pub loop-row-preserved : goal.loop-row-preserved
+loop-row-preserved c =
+    let l = c.loop-row.invariant in
+    let steps = c.in-Some.ensures.steps in
+    let x = c.near in
+    let y = c.near-in-loop-row in
+    let pos : 0 < c.args.step = omega (arith, c.requires) in
+    let one : length c.in-Some.row.now ≡ c.args.step * 1 = steps.1.1 ∙ l.2 ∙ omega arith in (
+      search rules,
+      tt,
+      steps.0 ∙ l.2,
+      left_less _ _ _ _ 0 c.args.step _ _ steps.1.0 pos l.3 1 (omega (arith, c.requires)) one (summed_one _ 0 c.args.step _ x.ensures (omega (arith, x.type_inv))),
+      left_less _ _ _ _ 4 c.args.step _ _ steps.1.0 pos l.4 1 (omega (arith, c.requires)) one (summed_one _ 4 c.args.step _ y.ensures (omega (arith, y.type_inv))),
     )
 
 pub returns : goal.returns
-returns c = let a = c.args in
-    let l = c.loop-i in record { ticks = summed_end (every_four a.m.now a.from a.step) l.i a.n l.ticks l.invariant.2 l.invariant.0 c.loop-i-test.false; bytes = summed_end (every_four a.m.now (a.from + 4) a.step) l.i a.n l.bytes l.invariant.3 l.invariant.0 c.loop-i-test.false }
+returns c =
+    let l = c.loop-row.invariant in
+    let short = c.in-None.ensures.steps.1.0 in
+    record { ticks = left_none _ _ _ _ _ (rw l.2 at short) l.3; bytes = left_none _ _ _ _ _ (rw l.2 at short) l.4 }

@@ -1,10 +1,13 @@
--- `runs::samples::few_rows` meets its contract. The sums are those of the samples passed, and the place a step on for each of them. Assumes nothing.
-use Rattle.std.proofs.Common.{◌≡◌, ◌+◌, ◌-◌, ◌*◌, ◌≤◌}
-use Rattle.runs.specs.Samples.{every_four, Summed}
+-- `runs::samples::few_rows` meets its contract. The sums are those of the rows passed. Assumes nothing.
+use Rattle.std.proofs.Common.{◌≡◌}
+use Rattle.std.specs.Slice.Iter.{chunks_exact_rest, chunks_exact_size}
+use Rattle.runs.proofs.Sums.{AllButLeft}
 use Rattle.runs.proofs.samples.few_rows.Given as goal
 
-abbrev pub invariant-loop-i : goal.invariant-loop-i
-invariant-loop-i l = (l.i ≤ l.n) × (l.p ≡ l.from + l.step * l.i) × Summed (every_four l.m l.from l.step) l.i l.ticks × Summed (every_four l.m (l.from + 4) l.step) l.i l.bytes
-
-abbrev pub decreases-loop-i : goal.decreases-loop-i
-decreases-loop-i l = l.n - l.i
+abbrev pub invariant-loop-row : goal.invariant-loop-row
+invariant-loop-row l =
+    goal.iterator-loop-row.can_next l.row-iterator
+    × goal.iterator-loop-row.is_finite l.row-iterator
+    × (chunks_exact_size l.row-iterator ≡ l.step)
+    × AllButLeft l.rows (chunks_exact_rest l.row-iterator) 0 l.step l.ticks
+    × AllButLeft l.rows (chunks_exact_rest l.row-iterator) 4 l.step l.bytes

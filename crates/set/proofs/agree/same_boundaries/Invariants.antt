@@ -1,11 +1,11 @@
 -- `set::agree::same_boundaries` meets its contract. Assumes nothing.
-use Prim.Native.Nat.{◌-◌}
-use lib.ListN.{length}
-use Rattle.set.proofs.Beside.{BesideGoing}
+use Rattle.std.specs.Iterator.Adapters.{zip_first, zip_second}
+use Rattle.set.proofs.Beside.{BesideBy}
 use Rattle.set.proofs.agree.same_boundaries.Given as goal
 
-abbrev pub invariant-loop-next0 : goal.invariant-loop-next0
-invariant-loop-next0 l = BesideGoing l.s0 l.f0 l.s l.f l.at0 l.at l.last
-
-abbrev pub decreases-loop-next0 : goal.decreases-loop-next0
-decreases-loop-next0 l = length l.s0 - l.at0
+abbrev pub invariant-loop-fragment0 : goal.invariant-loop-fragment0
+invariant-loop-fragment0 l =
+    (goal.iterator-loop-fragment0).can_next l.fragment0-iterator
+    × (goal.iterator-loop-fragment0).is_finite l.fragment0-iterator
+    × BesideBy l.zeroth.bytes.now l.zeroth.facts l.track.bytes.now l.track.facts
+    (zip_first l.fragment0-iterator) (zip_second l.fragment0-iterator) l.last

@@ -1,31 +1,16 @@
 -- `track::course::opened` meets its contract. Assumes nothing.
-use native.Mathlib.Omega.{arith}
-use Rattle.track.proofs.Stepping.{header_good, header_bad}
+use Rattle.track.proofs.Stepping.{header_good, header_fault, fault_small}
 use Rattle.track.proofs.course.opened.Goals as goal
 
-pub overflow_add-result : goal.overflow_add-result
-overflow_add-result c = let u = rw c.in-Good.is at c.check_header.ensures.heads_up_to in
-    omega (arith, u.0, c.requires.1)
-
-pub overflow_add-result-in-Good : goal.overflow_add-result-in-Good
-overflow_add-result-in-Good c = let u = rw c.in-Good.is at c.check_header.ensures.heads_up_to in
-    omega (arith, u.1, c.requires.1)
-
-pub overflow_add-result-in-OfMoov : goal.overflow_add-result-in-OfMoov
-overflow_add-result-in-OfMoov c = let u = rw c.in-OfMoov.is at c.check_header.ensures.heads_up_to in
-    omega (arith, u, c.requires.1)
-
-pub returns-in-Good : goal.returns-in-Good
-returns-in-Good c = let a = c.args in
-    let k = rw c.in-Good.is at c.check_header.ensures.heads_as in
+pub returns-in-Ok : goal.returns-in-Ok
+returns-in-Ok c = let a = c.args in
+    let k = rw c.in-Ok.is at c.check_header.ensures.heads_as in
     header_good a.f a.b.at a.own.now _ k.0 (k.1 a.b.at)
 
-pub returns-in-OfFtyp : goal.returns-in-OfFtyp
-returns-in-OfFtyp c = let a = c.args in
-    let k = rw c.in-OfFtyp.is at c.check_header.ensures.heads_as in
-    header_bad a.f a.b.at a.own.now (k a.b.at)
+pub refused-requires : goal.refused-requires
+refused-requires c = let p = c.requires in
+    (fault_small c.in-Err.fault _ p.1 (rw c.in-Err.is at c.check_header.ensures.heads_up_to), p.2)
 
-pub returns-in-OfMoov : goal.returns-in-OfMoov
-returns-in-OfMoov c = let a = c.args in
-    let k = rw c.in-OfMoov.is at c.check_header.ensures.heads_as in
-    header_bad a.f a.b.at a.own.now (k a.b.at)
+pub returns-in-Err : goal.returns-in-Err
+returns-in-Err c = let a = c.args in
+    rw c.refused.ensures (header_fault a.f a.b.at a.own.now c.in-Err.fault (rw c.in-Err.is at c.check_header.ensures.heads_as))

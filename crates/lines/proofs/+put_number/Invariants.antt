@@ -1,5 +1,0 @@
--- What falls in `lines::put_number`, which calls itself: the number.
-use Rattle.lines.proofs.+put_number.Given as goal
-
-abbrev pub decreases-put_number : goal.decreases-put_number
-decreases-put_number l = l.n

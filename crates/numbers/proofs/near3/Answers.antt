@@ -1,7 +1,0 @@
-use borrow.Author.Rules.{rules}
-use Rattle.numbers.specs.Numbers.{be3}
-use Rattle.numbers.proofs.near3.Goals as goal
-
-pub returns : goal.returns
-unfolding be3
-returns c = search rules

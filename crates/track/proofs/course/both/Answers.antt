@@ -1,8 +1,0 @@
--- `track::course::both` meets its contract. Assumes nothing.
-use Rattle.track.proofs.course.both.Goals as goal
-
-pub returns-then-a : goal.returns-then-a
-returns-then-a c = rw c.if-a.true
-
-pub returns-else-a : goal.returns-else-a
-returns-else-a c = rw c.if-a.false
