@@ -1,7 +1,26 @@
--- The next of a type among sibling boxes.
-use Rattle.std.specs.Prelude.{◌≡◌, List, ◌∷◌, ℕ, ◌+◌, ◌≤◌, length}
-use Rattle.rules.specs.Boxes.{look, boxes, places_of, head_of, size_of}
+-- The next of sibling boxes, and the next of a type among them.
+use Rattle.std.specs.Prelude.{◌≡◌, List, [], ◌∷◌, ℕ, ◌+◌, ◌≤◌, length, Option, Some, None}
+use Rattle.rules.specs.Boxes.{Box, look, boxes, places_of, head_of, size_of}
 use Rattle.rules.specs.declared.Look.TheVariants.{Good}
+use Rattle.boxes.specs.Stands.{Stands}
+use Rattle.boxes.specs.declared.Sibling.{Sibling}
+
+-- it as one of a run of boxes
+abbrev pub as_box : Sibling → Box
+as_box b = record { at = b.spot.at; inner = b.spot.head; size = b.spot.size; kind = b.kind }
+
+-- b is the first of the boxes from a place on, and those after it stand from q on
+pub record FirstOf (s : List ℕ) (at q : ℕ) (b : Sibling) : Type 0 where
+  pub boxes : boxes s at ≡ as_box b ∷ boxes s q
+  pub header : look s b.spot.at ≡ Good b.spot.head b.spot.size b.kind
+  pub place : b.spot.at ≡ at
+  pub next : q ≡ b.spot.at + b.spot.size
+  pub stands : Stands s b.spot
+
+-- the first of the boxes from a place on, with where those after it stand, or none
+abbrev pub IsNextSibling : Option Sibling → List ℕ → ℕ → ℕ → Type 0
+IsNextSibling (Some b) s at q = FirstOf s at q b
+IsNextSibling None s at q = (boxes s at ≡ []) × (q ≡ at)
 
 -- from a place on the first box of type k stands at p and ends at q
 pub record Comes (s : List ℕ) (at k p q : ℕ) : Type 0 where

@@ -1,4 +1,5 @@
 // The numbers of box types, each beside its four letters.
+// Numbers and no enum: document 01 decides over box type numbers on each path, the index writes any type, and a type that no rule names has no name.
 
 pub const FTYP: u32 = 0x66747970; // ftyp
 

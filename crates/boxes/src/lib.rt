@@ -4,12 +4,14 @@
 pub mod kinds;
 
 ghost use Rattle.std.specs.Prelude.{◌≡◌, ◌+◌, ◌-◌, ◌≤◌, length};
+ghost use Rattle.std.specs.Iterator.{at_most};
 ghost use Rattle.rules.specs.Boxes.{look, sized, inside};
 ghost use Rattle.boxes.specs.Bounds.{LookBounds};
+ghost use Rattle.boxes.specs.Siblings.{IsNextSibling};
 
 use kinds::{DINF, EDTS, MDIA, MINF, MOOF, MOOV, MVEX, STBL, TRAF, TRAK};
 use numbers::BigEndian;
-use rules::{Look, Path};
+use rules::{Look, Path, Spot};
 
 // A header of some bytes that says a size, at a place of a slice of a length. The size is compared with the bytes that are left:
 // its sum with the place may not fit.
@@ -28,6 +30,7 @@ fn sized(length: usize, at: usize, head: usize, size: usize, kind: u32) -> Look
 }
 
 // The header at a place that has room for a short one. Most sizes are 8 or more, and one test tells that they are neither too small nor long.
+#[tactic(auto, using(crate::proofs::Headers::no_long, crate::proofs::Headers::long, crate::proofs::Headers::short, crate::proofs::Headers::too_small))]
 fn read_header(s: &[u8], at: usize) -> Look
     requires { at + 8 ≤ length s.now }
     ensures { result ≡ look s.now at }
@@ -48,19 +51,59 @@ fn read_header(s: &[u8], at: usize) -> Look
 }
 
 // What stands at a place of a run of boxes. The last place with room for a header is the same all along the run, and is computed once.
+#[tactic(auto, using(rules::proofs::Forest::look_nothing, crate::proofs::Headers::told, crate::proofs::Headers::no_header))]
 pub fn look(s: &[u8], at: usize) -> Look
     ensures value { result ≡ look s.now at }
     ensures look_bounds { LookBounds result (length s.now) at }
 {
-    if 8 <= s.len() {
-        if at <= s.len() - 8 {
-            return read_header(s, at);
-        }
+    if 8 <= s.len() && at <= s.len() - 8 {
+        return read_header(s, at);
     }
     if at < s.len() {
         return Look::Short;
     }
     Look::Nothing
+}
+
+// A box of a run of siblings: where it stands, and its type.
+#[derive(Clone, Copy)]
+pub struct Sibling {
+    pub spot: Spot,
+    pub kind: u32,
+}
+
+// The sibling boxes of a slice from a place on, up to its end or a broken header.
+#[derive(Clone, Copy)]
+pub struct SiblingBoxes<'a> {
+    pub bytes: &'a [u8],
+    pub at: usize,
+}
+
+// The sibling boxes of a slice from a place on.
+pub fn along(bytes: &[u8], at: usize) -> SiblingBoxes<'_>
+    ensures { (result.bytes.now ≡ bytes.now) × (result.at ≡ at) }
+{
+    SiblingBoxes { bytes, at }
+}
+
+impl<'a> Iterator for SiblingBoxes<'a> {
+    type Item = Sibling;
+
+    ghost remaining = { λ s. at_most (length s.bytes.now - s.at) };
+
+    ghost next_gives = { λ s r t. (t.bytes.now ≡ s.bytes.now) × IsNextSibling r s.bytes.now s.at t.at };
+
+    fn next(&mut self) -> Option<Sibling> {
+        let at = self.at;
+        let Look::Good { head, size, kind } = look(self.bytes, at) else {
+            return None;
+        };
+        self.at = at + size;
+        Some(Sibling {
+            spot: Spot { at, head, size },
+            kind,
+        })
+    }
 }
 
 // What a box type is on a path: a type that no rule names is passed over.

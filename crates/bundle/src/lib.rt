@@ -7,7 +7,7 @@ ghost use Rattle.bundle.specs.Says.{MarkBounds, SaysBundle, ended_of};
 ghost use Rattle.bundle.specs.Front.{front_of};
 
 use numbers::BigEndian;
-use rules::Mark;
+use rules::{Mark, Refusal};
 
 // Rule 24: the records of a bundle.
 pub const RECORD_LIMIT: u64 = 16;
@@ -20,6 +20,15 @@ const MARK: u16 = 0x5357;
 pub struct BadRecord {
     pub track: u64,
     pub place: u64,
+}
+
+// It breaks rule 24 there.
+impl From<BadRecord> for Refusal {
+    ghost from_gives = { λ bad e. e ≡ record { number = 24; track = bad.track; place = bad.place } };
+
+    fn from(bad: BadRecord) -> Refusal {
+        Refusal::new(24, bad.track, bad.place)
+    }
 }
 
 // What stands at a place of a bundle.

@@ -1,13 +1,15 @@
 -- Laws of the first box that an entry counts: where it is seen, and that a walk over the runs may begin there.
-use mathlib.Core.Path.{◌≡◌, refl, sym, ap, ◌∙◌}
-use mathlib.Core.List.{List, []}
+use mathlib.Core.Path.{◌≡◌, refl, sym, ap, subst, ◌∙◌}
+use mathlib.Core.List.{List, [], ◌∷◌}
 use mathlib.Core.Bool.{Bool, true, false}
 use Prim.Native.Nat.{ℕ, zero, suc, ◌+◌, ◌-◌, ◌≤◌}
 use native.Mathlib.Omega.{arith}
 use lib.ListN.{length, take}
 use lib.Seq.{length-take-le}
 use lib.Dec.{eqb}
-use borrow.Author.Tests.{eq-eqb, ne_eqb}
+use denote.Ref.{Bor}
+use denote.Param.Members.{Mut}
+use borrow.Author.Tests.{eq-eqb, ne_eqb, eqb-true, eqb-false}
 use Rattle.numbers.specs.Numbers.{when}
 use Rattle.rules.specs.Kinds.{trun}
 use Rattle.rules.specs.Boxes.{look, boxes, kids, places_of, head_of, size_of}
@@ -17,7 +19,10 @@ use Rattle.rules.specs.declared.Entry.{Entry}
 use Rattle.rules.specs.declared.Entry.TheVariants.{One, OneOrMore}
 use Rattle.rules.specs.declared.Look.{Look}
 use Rattle.rules.specs.declared.Look.TheVariants.{Nothing, Short, Small, Beyond, Good}
-use Rattle.std.specs.Prelude.{Ok}
+use Rattle.std.specs.Prelude.{Ok, Option, Some, None}
+use Rattle.std.specs.Fn.{CalledAt}
+use Rattle.std.specs.Iterator.{FindsItem, Yields}
+use Rattle.std.specs.List.{FoldsTo}
 use Rattle.rules.specs.declared.Seen.{Seen}
 use Rattle.rules.specs.declared.Seen.TheVariants.{Never, Once}
 use Rattle.rules.proofs.FirstSeen.{first_stays, first_at_lem}
@@ -25,7 +30,10 @@ use Rattle.rules.proofs.Forest.{look_found, boxes_by, places_miss, seen_box, see
 use Rattle.rules.proofs.Then.{broken, then_first, then_second}
 use Rattle.boxes.specs.Stands.{Stands, StandsAt}
 use Rattle.rules.specs.declared.Spot.{Spot}
-use Rattle.boxes.proofs.Walks.{found, told_header}
+use Rattle.boxes.specs.Siblings.{FirstOf, IsNextSibling}
+use Rattle.boxes.specs.declared.Sibling.{Sibling}
+use Rattle.boxes.specs.declared.SiblingBoxes.{SiblingBoxes}
+use Rattle.boxes.proofs.Walks.{first_there, none_there, first_box}
 use Rattle.boxes.proofs.Stands.{stands}
 use Rattle.counts.specs.Sights.{Sighted}
 use Rattle.counts.specs.declared.Sight.{Sight}
@@ -119,18 +127,54 @@ module _ (m : List ℕ) (x : Spot) (st : Stands m x) (w at : ℕ) where
   pub child_none : FromHere → boxes front at ≡ [] → StandsAt m (child m x.at w) x
   child_none i o = record { stands = st; place = child_is i x.at (first_none front at (One w) x.at o) }
 
-  module _ {h z k : ℕ} {l : Look} (e : l ≡ look front at) (t : l ≡ Good h z k) where
-    pub child_here : FromHere → k ≡ w → StandsAt m (child m x.at w) (record { at = at; head = h; size = z })
+  module _ {q : ℕ} {b : Sibling} (f : FirstOf front at q b) where
+    header : look front at ≡ Good b.spot.head b.spot.size b.kind
+    header = rw (← f.place) f.header
+
+    pub child_here : FromHere → b.kind ≡ w → StandsAt m (child m x.at w) b.spot
     unfolding wanted
-    child_here i q =
+    child_here i e =
         record {
-          stands = stands m front (front_is m (x.at + x.size) st.fits) (found front at e t);
-          place = child_is i at (first_here front at (One w) h z k (told_header front at e t) x.at (eq-eqb k w q));
+          stands = stands m front (front_is m (x.at + x.size) st.fits) (first_box f);
+          place = f.place ∙ child_is i at (first_here front at (One w) b.spot.head b.spot.size b.kind header x.at (eq-eqb b.kind w e));
         }
 
-    pub child_later : FromHere → (k ≡ w → ⊥) → seen (One w) (boxes front (x.at + x.head)) ≡ seen (One w) (boxes front (at + z))
+    pub child_later : FromHere → (b.kind ≡ w → ⊥) → seen (One w) (boxes front (x.at + x.head)) ≡ seen (One w) (boxes front q)
     unfolding wanted
-    child_later i n = i ∙ first_later front at (One w) h z k (told_header front at e t) (ne_eqb k w n)
+    child_later i n =
+        rw (f.next, f.place) (i ∙ first_later front at (One w) b.spot.head b.spot.size b.kind header (ne_eqb b.kind w n))
+
+-- the first box of a type among siblings, looked for from the first on: `find` with a closure f that tests the type
+module _ (m : List ℕ) (x : Spot) (st : Stands m x) (w : ℕ) {F : Type 0} (g : Mut F (Bor Sibling × Unit {0}) Bool) (f : F)
+    (tests : (b : Sibling) (r : Bool) (q : F) → CalledAt g f b r q → (q ≡ f) × (r ≡ eqb b.kind w)) where
+  abbrev Gives : SiblingBoxes → Option Sibling → SiblingBoxes → Type 0
+  Gives p r q = (q.bytes.now ≡ p.bytes.now) × IsNextSibling r p.bytes.now p.at q.at
+
+  -- no box of the type was passed up to p
+  abbrev At : SiblingBoxes → Type 0
+  At p = (p.bytes.now ≡ front m x st w p.at) × FromHere m x st w p.at
+
+  passed : (bs : List Sibling) (p q : SiblingBoxes) (a j : F) → a ≡ f → At p → Yields Gives p bs q → FoldsTo (λ s b t. CalledAt g s b false t) a bs j → At q × (j ≡ f)
+  passed [] p q a j e h y c = (subst At y h, sym c ∙ e)
+  passed (b ∷ bs) p q a j e h y c =
+      let n = y.1 in
+      let t = tests b false c.0 (subst (λ (s : F). CalledAt g s b false c.0) e c.1) in
+      passed bs y.0 q c.0 j t.0 (n.0 ∙ h.0, child_later m x st w p.at (first_there h.0 n.1) h.1 (eqb-false b.kind w (sym t.1))) y.2 c.2
+
+  module _ (p u : SiblingBoxes) (e : p.bytes.now ≡ take (x.at + x.size) m) (i : p.at ≡ x.at + x.head) where
+    begins : At p
+    begins = (e, rw i refl)
+
+    pub child_found : (b : Sibling) → FindsItem Gives g p f (Some b) u → StandsAt m (child m x.at w) b.spot
+    child_found b d =
+        let l = passed d.0 p d.2.0 f d.1 refl begins d.2.1 d.3 in
+        let t = tests b true d.4.0 (subst (λ (s : F). CalledAt g s b true d.4.0) l.1 d.4.1) in
+        child_here m x st w d.2.0.at (first_there l.0.0 d.2.2.1) l.0.1 (eqb-true b.kind w (sym t.1))
+
+    pub child_absent : FindsItem Gives g p f None u → StandsAt m (child m x.at w) x
+    child_absent d =
+        let l = passed d.0 p d.2.0 f d.1 refl begins d.2.1 d.3 in
+        child_none m x st w d.2.0.at l.0.1 (none_there l.0.0 _ d.2.2.1.0)
 
 -- the first box seen of an entry stands where it is
 pub sighted : (m : List ℕ) (at : ℕ) (e : Entry) (v : Sight) → Sighted m at e v → StandsAt m (first_in m at e) v.first

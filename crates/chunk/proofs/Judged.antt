@@ -19,7 +19,7 @@ use Rattle.std.specs.Prelude.{Option, Result, Ok, Err}
 use Rattle.rules.specs.declared.Refusal.{Refusal}
 use Rattle.rules.specs.declared.Defaults.{Defaults}
 use Rattle.rules.specs.declared.Spot.{Spot}
-use Rattle.rules.proofs.Laws.{and_first, and_second}
+use Rattle.std.proofs.lemmas.Bool.{and_parts}
 use Rattle.rules.proofs.Then.{then_holds, then_breaks, then_last, then_assoc, then_first, then_second, must_holds}
 use Rattle.rules.proofs.Untracked.{Untracked, then_is, must_is, counts_untracked, before_sums_untracked, of_sums_untracked}
 use Rattle.boxes.specs.Stands.{Stands}
@@ -41,14 +41,14 @@ stops q {e = e} is = then_breaks q {n = e.number} {t = e.track} {p = e.place} is
 abbrev pub Own : List ℕ → Refusal → Type 0
 Own m e = (e.track ≡ 0) × (e.place ≤ length m)
 
-own : (m : List ℕ) {r : Rule} {e : Refusal} → Untracked r → PlacedUpTo (length m) r → r ≡ Err e → Own m e
-own m u low is = (subst Untracked is u, subst (PlacedUpTo (length m)) is low)
+owned : (m : List ℕ) {r : Rule} {e : Refusal} → Untracked r → PlacedUpTo (length m) r → r ≡ Err e → Own m e
+owned m u low is = (subst Untracked is u, subst (PlacedUpTo (length m)) is low)
 
 -- counts that break
 pub counts_break :
     (n : ℕ) (m : List ℕ) (at : ℕ) (es : List Entry) (r : Rule) {e : Refusal} → r ≡ counts n m at es → PlacedUpTo (length m) r → r ≡ Err e →
     (counts n m at es ≡ Err e) × Own m e
-counts_break n m at es r is low b = (sym is ∙ b, own m {r = r} (rw is (counts_untracked n m at es)) low b)
+counts_break n m at es r is low b = (sym is ∙ b, owned m {r = r} (rw is (counts_untracked n m at es)) low b)
 
 module _ (m : List ℕ) (s : Setting) {e : Refusal} where
   pub broken_moof : (counts 14 m 0 entries_in_moof ≡ Err e) × Own m e → SaysChunk (Err e) m s
@@ -128,7 +128,7 @@ module _ (m : List ℕ) (d : Defaults) (x : InMoof) (k : BodyValues) (t : Totals
                   must_holds _ 19 _ (then_second _ _ (then_second _ _ (then_second _ _ good))),
                 ),
             clash_is ∙ then_second _ _ first,
-            leb-true t.samples sample_limit (and_second (leb 1 t.samples) _ few_samples),
+            leb-true t.samples sample_limit (and_parts (leb 1 t.samples) _ few_samples).1,
           )
 
 -- rules 20 to 22 over what was read and the samples span
@@ -136,10 +136,7 @@ module _ (m : List ℕ) (d : Defaults) (x : InMoof) (k : BodyValues) (n : ℕ) (
     (found : MoofIn m x) (told : BodyIn m d k) (right : few n ≡ true)
     (s : SpansAll m k.own (length m + head) (runs_in m) [] n a) where
   some : 1 ≤ n
-  some = leb-true 1 n (and_first _ (leb n sample_limit) right)
-
-  pub ticks_low : a.ticks ≤ 4294967295 * sample_limit
-  ticks_low = omega (arith, s.small.0, leb-true n sample_limit (and_second (leb 1 n) _ right))
+  some = leb-true 1 n (and_parts _ (leb n sample_limit) right).0
 
   ticks_are : duration_in m d ≡ a.ticks
   unfolding duration_in durations_of
@@ -181,7 +178,7 @@ module _ (m : List ℕ) (d : Defaults) (x : InMoof) (k : BodyValues) (n : ℕ) (
     rest_breaks e =
         let low : PlacedUpTo (length m) rule =
         rw is (then_is (PlacedUpTo (length m)) _ _ (next found.run.stands _ 21 _ s.place) (must_is (PlacedUpTo (length m)) _ 22 _ tt (omega arith))) in
-        (sym rest_is ∙ e, own m {r = rule} (rw rest_is (of_sums_untracked m d head payload prev)) low e)
+        (sym rest_is ∙ e, owned m {r = rule} (rw rest_is (of_sums_untracked m d head payload prev)) low e)
 
 -- rules may be grouped
 regroup : (a b c d e : Rule) → ((a then b then c) then (d then e)) ≡ ((a then b then c then d) then e)
@@ -208,7 +205,7 @@ module _ (m : List ℕ) (s : Setting) (right : rule14 m ≡ Ok tt) (sized : rule
 
   pub broken_19 : {v : Rule} {e : Refusal} → v ≡ before → PlacedUpTo (length m) v → v ≡ Err e → SaysChunk (Err e) m s
   broken_19 {v} is low e =
-      let l = own m {r = v} (rw is (before_sums_untracked m s.header.id s.prev)) low e in
+      let l = owned m {r = v} (rw is (before_sums_untracked m s.header.id s.prev)) low e in
       (rest_of ∙ stops _ (sym is ∙ e), l.0, l.1)
 
   pub settled : before ≡ Ok tt → (r : Result Interval Refusal) → says r after m d → SaysChunk r m s

@@ -1,4 +1,5 @@
 // Rule 15: the bodies of a chunk's boxes before its runs, each by a reader of its own, which answers nothing where a body has another form.
+// `StandsAt` stands in each contract: no plainer in one struct, as lib.rt says.
 ghost use Rattle.rules.specs.Chunk.{mfhd_in, tfhd_in, tfdt_in};
 ghost use Rattle.boxes.specs.Stands.{StandsAt};
 ghost use Rattle.chunk.specs.Bodies.{SaysMfhd, SaysTfhd, SaysTfdt};
@@ -34,7 +35,9 @@ pub struct BodyValues {
     pub own: Defaults,
 }
 
-// The `mfhd`: 16, version 0; it says nothing that a rule asks for.
+// The `mfhd`: 16, version 0; it says nothing that a rule asks for. An `Option` of nothing and no bool: document 01 has every box reader taken apart by
+// `let .. else`.
+#[tactic(auto, using(runs::proofs::Formed::body_right, runs::proofs::Formed::body_wrong))]
 pub fn read_mfhd(m: &[u8], b: Spot) -> Option<()>
     requires { StandsAt m.now (mfhd_in m.now) b }
     ensures { SaysMfhd result m.now }
@@ -47,6 +50,7 @@ pub fn read_mfhd(m: &[u8], b: Spot) -> Option<()>
 }
 
 // The `tfhd`: version 0, sized by its flags; with the `trex` defaults.
+#[tactic(auto, using(runs::proofs::Formed::body_right, runs::proofs::Formed::body_wrong, crate::proofs::Formed::tfhd_low, crate::proofs::Formed::tfhd_short, crate::proofs::Formed::plain_size))]
 pub fn read_tfhd(m: &[u8], b: Spot, d: Defaults) -> Option<Tfhd>
     requires { StandsAt m.now (tfhd_in m.now) b }
     ensures { SaysTfhd result m.now d }

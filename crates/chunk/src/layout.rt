@@ -1,4 +1,4 @@
-// Where the fields of a `tfhd` stand, by its flags.
+// Where the fields of a `tfhd` stand, by its flags. Bytes, place and `StandsAt` stay apart, as lib.rt says.
 ghost use Rattle.std.specs.Prelude.{◌≡◌, ◌+◌};
 ghost use Rattle.numbers.specs.Numbers.{when};
 ghost use Rattle.rules.specs.Fields.{box_flags, field};
@@ -14,8 +14,7 @@ use runs::layout::bytes_for;
 pub fn tfhd_size(flags: u32) -> usize
     ensures { result ≡ tfhd_size flags }
 {
-    let defaults = bytes_for(4, flags, 0x8) + bytes_for(4, flags, 0x10) + bytes_for(4, flags, 0x20);
-    16 + bytes_for(8, flags, 0x1) + bytes_for(4, flags, 0x2) + defaults
+    8 + default_offsets(flags).flags + bytes_for(4, flags, 0x20)
 }
 
 // How far behind the header of a `tfhd` with these flags each default stands, where it is there.
@@ -48,6 +47,7 @@ fn own(m: &[u8], b: Spot, k: usize, set: bool, default: u32) -> u32
 }
 
 // The defaults of the `tfhd`, which is sized by these flags, else those of `trex`.
+#[tactic(auto, using(crate::proofs::Formed::reach_duration, crate::proofs::Formed::reach_size, crate::proofs::Formed::reach_flags), unfolding(rules::specs::Chunk::defaults_in))]
 pub fn defaults(m: &[u8], b: Spot, flags: u32, d: Defaults) -> Defaults
     requires stands_at { StandsAt m.now (tfhd_in m.now) b }
     requires flags_value { (flags ≡ box_flags m.now b.at) × (b.size + 8 ≡ b.head + tfhd_size flags) }

@@ -1,4 +1,6 @@
 // One chunk: rules 14 to 22 over the bytes of its `moof`.
+// `WholeBox`, the limit, `MoofIn` and `BodyIn` stand in each contract beside the bytes. One struct with them is no plainer: every clause would read
+// `m.entry.bytes.now`, and every call of `fields`, `counts` and `runs` would take it apart again.
 #![tactic(auto)]
 
 ghost use Rattle.std.specs.Prelude.{◌≡◌, ◌≤◌, length};
@@ -12,7 +14,7 @@ ghost use Rattle.chunk.specs.Answers.{SaysChunk};
 pub use around::Setting;
 use bodies::{BodyValues, InMoof};
 use boxes::kinds::{MFHD, TFDT, TFHD, TRAF, TRUN};
-use fields::wrong_body;
+use fields::misformed;
 use rules::{Entry, Refusal, Spot};
 
 pub mod again;
@@ -55,13 +57,13 @@ fn read(m: &[u8], x: InMoof, s: Setting) -> Result<Interval, Refusal>
     ensures { SaysChunk result m.now s }
 {
     let Some(()) = bodies::read_mfhd(m, x.mfhd) else {
-        return Err(wrong_body(15, x.mfhd));
+        return Err(misformed(15, x.mfhd));
     };
     let Some(tfhd) = bodies::read_tfhd(m, x.tfhd, s.header.defaults) else {
-        return Err(wrong_body(15, x.tfhd));
+        return Err(misformed(15, x.tfhd));
     };
     let Some(start) = bodies::read_tfdt(m, x.tfdt) else {
-        return Err(wrong_body(15, x.tfdt));
+        return Err(misformed(15, x.tfdt));
     };
     let k = BodyValues {
         flags: tfhd.flags,

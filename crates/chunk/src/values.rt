@@ -1,4 +1,4 @@
-// Rules 16 to 22, by what was read.
+// Rules 16 to 22, by what was read. `MoofIn` and `BodyIn` stand in the contracts beside the bytes: no plainer in one struct, as lib.rt says.
 ghost use Rattle.std.specs.Prelude.{◌≡◌, true, ◌&&◌, [], ◌+◌, ◌*◌, ◌≤◌, length, eqb};
 ghost use Rattle.rules.specs.Limits.{sample_limit};
 ghost use Rattle.rules.specs.Rules.{◌then◌, PlacedUpTo};
@@ -35,10 +35,7 @@ pub fn few(samples: u64) -> bool
 pub fn follows(prev: Option<u64>, start: u64) -> bool
     ensures { result ≡ follows prev start }
 {
-    match prev {
-        None => true,
-        Some(e) => start == e,
-    }
+    prev.is_none_or(|e| start == e)
 }
 
 // Rule 21: the track's first chunk opens on a sync sample, of a later one that is not asked.
@@ -46,10 +43,7 @@ pub fn follows(prev: Option<u64>, start: u64) -> bool
 pub fn opens(prev: Option<u64>, sync: bool) -> bool
     ensures { result ≡ opens prev sync }
 {
-    match prev {
-        None => sync,
-        Some(_) => true,
-    }
+    prev.is_some() || sync
 }
 
 // Rule 20: the end, by a start and a duration. `None` where the duration is 0 or the end over 2^63 - 1.

@@ -2,21 +2,18 @@
 use mathlib.Core.Path.{◌≡◌, refl, sym, ap, ◌∙◌}
 use mathlib.Core.List.{List, []}
 use mathlib.Core.Bool.{Bool, true, false}
-use mathlib.Core.Logic.{inl, inr}
-use Prim.Native.Nat.{ℕ, ◌+◌, ◌≤◌}
+use mathlib.Core.Logic.{inr}
+use Prim.Native.Nat.{ℕ}
 use native.Mathlib.Omega.{arith}
-use lib.ListN.{length}
 use Rattle.numbers.specs.Numbers.{when}
-use Rattle.rules.specs.Boxes.{look, boxes}
+use Rattle.rules.specs.Boxes.{boxes}
 use Rattle.rules.specs.Counts.{wanted, again, seen, seen_from}
 use Rattle.rules.specs.declared.Entry.{Entry}
-use Rattle.rules.specs.declared.Look.{Look}
-use Rattle.rules.specs.declared.Look.TheVariants.{Good}
-use Rattle.rules.proofs.Forest.{seen_box, seen_end}
+use Rattle.rules.proofs.Forest.{seen_end}
 use Rattle.boxes.specs.Stands.{Stands}
 use Rattle.rules.specs.declared.Spot.{Spot}
-use Rattle.boxes.proofs.Stands.{stands_here}
-use Rattle.boxes.proofs.Walks.{told_header, found}
+use Rattle.boxes.specs.Siblings.{FirstOf}
+use Rattle.boxes.specs.declared.Sibling.{Sibling}
 use Rattle.counts.specs.Sights.{seen_by, seen_of, again_by, again_at, Keeps, Saw}
 use Rattle.counts.specs.declared.Times.{Times}
 use Rattle.counts.specs.declared.Times.TheVariants.{Unseen, Single, Several}
@@ -39,27 +36,22 @@ pub record SeenTo (s : List ℕ) (k : Spot) (from at : ℕ) (e : Entry) (v : Sig
   pub all : seen e (boxes s from) ≡ seen_from (seen_of v) e (boxes s at)
   pub keeps : Keeps s k v
 
-pub going_none :
-    (s : List ℕ) (k : Spot) (from : ℕ) (e : Entry) → from ≤ length s → SeenTo s k from from e (record { first = k; times = Unseen })
-going_none s k from e l = record { all = refl; keeps = record { first = refl; stands = inl refl; second = tt } }
-
 pub going_all : {s : List ℕ} {k : Spot} {from at : ℕ} {e : Entry} {v : Sight} → SeenTo s k from at e v → boxes s at ≡ [] → Saw s k from e v
 going_all {s} {k} {from} {at} {e} {v} g o = record { all = sym (g.all ∙ seen_end s at (seen_of v) e o); keeps = g.keeps }
 
 -- past a box that is wanted, and past one that is not
-module _ (s : List ℕ) (at : ℕ) {h z k : ℕ} {l : Look} (e : l ≡ look s at) (t : l ≡ Good h z k) {c : Spot} {from : ℕ} {w : Entry} {v : Sight}
-    (g : SeenTo s c from at w v) where
-  more : (b : Bool) → wanted w k ≡ b → seen w (boxes s from) ≡ seen_from (when b (again at (seen_of v)) (seen_of v)) w (boxes s (at + z))
-  more b q = g.all ∙ rw (← q) (seen_box s at (seen_of v) w h z k (told_header s at e t))
+module _ {s : List ℕ} {at q : ℕ} {b : Sibling} (f : FirstOf s at q b) {c : Spot} {from : ℕ} {w : Entry} {v : Sight} (g : SeenTo s c from at w v) where
+  more : (t : Bool) → wanted w b.kind ≡ t → seen w (boxes s from) ≡ seen_from (when t (again b.spot.at (seen_of v)) (seen_of v)) w (boxes s q)
+  unfolding seen_from
+  more t e = g.all ∙ rw (← e) (ap (seen_from (seen_of v) w) f.boxes)
 
-  pub going_hit : {r x : Sight} → wanted w k ≡ true → r ≡ again_at (record { at = at; head = h; size = z }) v → x ≡ r → SeenTo s c from (at + z) w x
-  going_hit {r} {x} q a f =
-      let b : Spot = record { at = at; head = h; size = z } in
-      rw (f, a)
+  pub going_hit : {r x : Sight} → wanted w b.kind ≡ true → r ≡ again_at b.spot v → x ≡ r → SeenTo s c from q w x
+  going_hit {r} {x} e a i =
+      rw (i, a)
       (record {
-        all = more true q ∙ ap (λ (y : _). seen_from y w (boxes s (at + z))) (sym (seen_again b v.first v.times));
-        keeps = keeps_again b v.first v.times (stands_here (found s at e t)) g.keeps;
+        all = more true e ∙ ap (λ (y : _). seen_from y w (boxes s q)) (sym (seen_again b.spot v.first v.times));
+        keeps = keeps_again b.spot v.first v.times f.stands g.keeps;
       })
 
-  pub going_miss : {x : Sight} → wanted w k ≡ false → x ≡ v → SeenTo s c from (at + z) w x
-  going_miss q f = rw f (record { all = more false q; keeps = g.keeps })
+  pub going_miss : {x : Sight} → wanted w b.kind ≡ false → x ≡ v → SeenTo s c from q w x
+  going_miss e i = rw i (record { all = more false e; keeps = g.keeps })

@@ -1,4 +1,5 @@
 // Box counts: what a container wants of its boxes, seen in one walk over them and judged entry by entry.
+// A slice and a box in it stay two parameters, with `Stands` in each contract: no plainer in one struct, as the head of `fields` says.
 #![tactic(auto)]
 
 ghost use Rattle.std.specs.Prelude.{◌≡◌, ◌≤◌, [], ◌∷◌, length};
@@ -7,7 +8,7 @@ ghost use Rattle.rules.specs.Counts.{wanted, one_of, at_most_one_of, some_of, co
 ghost use Rattle.boxes.specs.Stands.{Stands};
 ghost use Rattle.counts.specs.Sights.{seen_of, StandsIn, again_at, Tallied, Counts};
 
-use rules::{Entry, Look, Refusal, Rule, Spot};
+use rules::{Entry, Refusal, Rule, Spot};
 
 // How many boxes of an entry are seen: none, one, or more, with the place of the second.
 #[derive(Clone, Copy)]
@@ -18,7 +19,8 @@ pub enum Times {
 }
 
 // What is seen of an entry: how many boxes, and the first of them, or the container where there is none.
-// The first is no part of `Times`: with `Single(Spot)` and `Several(Spot, usize)` a track takes 1.04 to 1.05 of the time.
+// The first is no part of `Times`: with `Single(Spot)` and `Several(Spot, usize)` a track takes 1.04 to 1.05 of the time,
+// over the bar of docs/SPEED.md, none slower than before.
 #[derive(Clone, Copy)]
 pub struct Sight {
     pub first: Spot,
@@ -112,7 +114,8 @@ fn count_entry(number: u64, container: usize, e: Entry, v: Sight) -> Rule
     }
 }
 
-// What is seen of three entries. As arrays of three, with a `for` along them, `count_boxes` takes 1.04 of the instructions.
+// What is seen of three entries. As arrays of three, with a `for` along them, `count_boxes` takes 1.04 of the instructions, over the bar of
+// docs/SPEED.md, none slower than before.
 #[derive(Clone, Copy)]
 struct Three {
     a: Sight,
@@ -125,7 +128,6 @@ fn tally(s: &[u8], k: Spot, from: usize, a: Entry, b: Entry, c: Entry) -> Three
     requires { from ≤ length s.now }
     ensures { Tallied s.now k from a b c result }
 {
-    let mut at = from;
     let none = Sight {
         first: k,
         times: Times::Unseen,
@@ -133,22 +135,18 @@ fn tally(s: &[u8], k: Spot, from: usize, a: Entry, b: Entry, c: Entry) -> Three
     let mut u = none;
     let mut v = none;
     let mut x = none;
-    loop {
-        let Look::Good { head, size, kind } = boxes::look(s, at) else {
-            return Three { a: u, b: v, c: x };
-        };
-        let y = Spot { at, head, size };
-        if wanted(a, kind) {
-            u = again_at(u, y);
+    for y in boxes::along(s, from) {
+        if wanted(a, y.kind) {
+            u = again_at(u, y.spot);
         }
-        if wanted(b, kind) {
-            v = again_at(v, y);
+        if wanted(b, y.kind) {
+            v = again_at(v, y.spot);
         }
-        if wanted(c, kind) {
-            x = again_at(x, y);
+        if wanted(c, y.kind) {
+            x = again_at(x, y.spot);
         }
-        at += size;
     }
+    Three { a: u, b: v, c: x }
 }
 
 // The counts in the container that stands there, entry by entry, in one walk over its boxes.
@@ -170,6 +168,7 @@ pub fn count_boxes(number: u64, m: &[u8], x: Spot, a: Entry, b: Entry, c: Entry)
 }
 
 // The count of one entry in the container that stands there.
+#[tactic(auto, using(crate::proofs::Firsts::counts_1))]
 fn alone(number: u64, m: &[u8], x: Spot, e: Entry) -> Rule
     requires { Stands m.now x }
     ensures value { result ≡ counts number m.now x.at (e ∷ []) }

@@ -28,15 +28,11 @@ pub fn versioned(s: &[u8], b: Spot, zero: usize, one: usize) -> Option<Version>
 {
     let payload = b.size - b.head;
     let body = b.at + b.head;
-    if payload == zero - 8 {
-        if s[body] == 0 {
-            return Some(Version::Zero);
-        }
+    if payload == zero - 8 && s[body] == 0 {
+        return Some(Version::Zero);
     }
-    if payload == one - 8 {
-        if s[body] == 1 {
-            return Some(Version::One);
-        }
+    if payload == one - 8 && s[body] == 1 {
+        return Some(Version::One);
     }
     None
 }
@@ -47,10 +43,7 @@ pub fn is_plain(s: &[u8], b: Spot, size: usize) -> bool
     requires { Stands s.now b × (12 ≤ size) }
     ensures { result ≡ has_form (plain size) s.now b.at }
 {
-    if b.size - b.head == size - 8 {
-        return s[b.at + b.head] == 0;
-    }
-    false
+    b.size - b.head == size - 8 && s[b.at + b.head] == 0
 }
 
 // Whether a box has at least a size.
@@ -62,7 +55,8 @@ pub fn is_at_least(s: &[u8], b: Spot, size: usize) -> bool
     size - 8 <= b.size - b.head
 }
 
-// The four-byte number k bytes behind the header.
+// The four-byte number k bytes behind the header. It and `double` are not one generic reader: that would say `be4` of a place, and each caller's proof
+// would lead this to `field`, in whose words the rules are written.
 #[tactic(auto, unfolding(rules::specs::Fields::field))]
 pub fn word(s: &[u8], b: Spot, k: usize) -> u32
     requires { Stands s.now b × (b.head + k + 4 ≤ b.size) }
@@ -90,7 +84,7 @@ pub fn flags(s: &[u8], b: Spot) -> u32
 }
 
 // A body that has another form than its own: a rule breaks at the box.
-pub fn wrong_body(number: u64, b: Spot) -> Refusal
+pub fn misformed(number: u64, b: Spot) -> Refusal
     ensures { result ≡ record { number = number; track = 0; place = b.at } }
 {
     Refusal::new(number, 0, b.at as u64)

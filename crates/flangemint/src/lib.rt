@@ -10,6 +10,7 @@ ghost use Rattle.flangemint.specs.Gives.{in_order, Gives, answered_in, GivesAnsw
 use rules::{Answer, Verdict};
 
 // A verdict's five numbers, in the order in which C finds them.
+// No From: neither type is this crate's, so the impl would stand in rules, away from the edits `place_and_count`, `timescale_is_count` that hold C's order here.
 fn in_order(v: Verdict) -> [u64; 5]
     ensures { result ≡ in_order v }
 {
@@ -62,7 +63,7 @@ pub extern "C" fn flangemint_pieces_take(
     pieces::feed(numbers, head, kept, piece);
 }
 
-// An answer's seven numbers, in the order in which C finds them.
+// An answer's seven numbers, in the order in which C finds them. No From, as for `in_order`: the edit `last_is_first` holds the order here.
 fn answered_in(a: Answer) -> [u64; 7]
     ensures { result ≡ answered_in a }
 {

@@ -27,14 +27,14 @@ use Rattle.framing.proofs.Steps.{passed_up}
 use Rattle.framing.proofs.Rows.{rows_length}
 
 -- a test that fails: what it was, and its refusal
-abbrev refusal_of : Rule → Refusal
-refusal_of (Ok u) = record { number = 0; track = 0; place = 0 }
-refusal_of (Err e) = e
+abbrev refusal_in : Rule → Refusal
+refusal_in (Ok u) = record { number = 0; track = 0; place = 0 }
+refusal_in (Err e) = e
 
 pub must_refuses : (b : Bool) (n p : ℕ) {e : Refusal} → must b n p ≡ Err e → (b ≡ false) × (e ≡ record { number = n; track = 0; place = p })
 unfolding must
 must_refuses true n p q = never (cc)
-must_refuses false n p q = (refl, sym (ap refusal_of q))
+must_refuses false n p q = (refl, sym (ap refusal_in q))
 
 module _ (s t : List ℕ) where
   -- what is left behind rule 1

@@ -66,9 +66,6 @@ module _ (path : Path) (s : List ℕ) (at base n : ℕ) where
   unfolding framing
   none e = (ap (λ f. framing f base n) (forest_nothing path s at e), boxes_nothing s at e)
 
-  pub at_end : length s ≤ at → (framing (forest path s at) base n ≡ Ok n) × (boxes s at ≡ [])
-  at_end h = none (look_nothing s at h)
-
   -- 5 is tried first where bytes remain
   pub at_limit : at < length s → box_limit ≤ n → framing (forest path s at) base n ≡ unframed 5 (base + at)
   unfolding framing rule5
@@ -146,6 +143,10 @@ module _ (path : Path) (s : List ℕ) (at base n : ℕ) where
       by Small e = by_limit _ _ (at_limit (some_left e (λ q. never (cc)))) (λ h. at_bad 3 h (forest_small path s at e))
       by Beyond e = by_limit _ _ (at_limit (some_left e (λ q. never (cc)))) (λ h. at_bad 4 h (forest_beyond path s at e))
       by (Good h z k) e = by_limit _ _ (at_limit (some_left e (λ q. never (cc)))) (λ m. (e, refl, m))
+
+  -- the same of a step that went well, by what it has
+  pub by_past : {o q : Option Past} → o ≡ q → Ok o ≡ past_header (look s at) (base + at) n → HeaderRead (Ok q)
+  by_past m e = by_header (sym (ap Ok m) ∙ e)
 
   -- where it is passed up it says the same
   pub reads_up : {x : Misframed} → framing (forest path s at) base n ≡ Err x → (r : Step) → IsErrAnd r (λ y. y ≡ x) → Read r s at path base n

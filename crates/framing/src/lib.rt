@@ -31,6 +31,7 @@ pub struct Past {
 pub type Step = Result<Option<Past>, Misframed>;
 
 // What stands at a place of a run whose slice starts at a base, with n boxes before it: the step past it, if nothing is inside it.
+#[tactic(auto, using(rules::proofs::Forest::look_nothing, crate::proofs::Steps::limit_met))]
 fn header_at(s: &[u8], at: usize, base: usize, n: usize) -> Step
     requires { InReach base s.now }
     ensures value { result ≡ past_header (look s.now at) (base + at) n }
@@ -58,7 +59,8 @@ fn header_at(s: &[u8], at: usize, base: usize, n: usize) -> Step
 }
 
 // Reads the box at a place of a run whose slice starts at a base, with n boxes before it, and what is inside it: a step of `read_run`, which calls it
-// and which it calls. With slice, path and base as one struct the index takes 1.10 of the instructions.
+// and which it calls. With slice, path and base as one struct the index takes 1.10 of the instructions, over the bar of docs/SPEED.md, none slower than before;
+// so `InReach` stands in each contract.
 #[cycle(next_box_read_run)]
 fn next_box(s: &[u8], at: usize, path: Path, base: usize, n: usize) -> Step
     requires { InReach base s.now }
@@ -76,7 +78,8 @@ fn next_box(s: &[u8], at: usize, path: Path, base: usize, n: usize) -> Step
     Ok(Some(Past { boxes, ..next }))
 }
 
-// Reads a run of boxes, from the start of a slice that starts at a base to its end, with n boxes before it.
+// Reads a run of boxes, from the start of a slice that starts at a base to its end, with n boxes before it. A loop and no `for`: no plainer, since an iterator
+// would hold the same place and count, and a refusal leaves the loop.
 #[cycle(next_box_read_run)]
 pub fn read_run(s: &[u8], path: Path, base: usize, n: usize) -> Framing
     requires { InReach base s.now }
@@ -94,7 +97,8 @@ pub fn read_run(s: &[u8], path: Path, base: usize, n: usize) -> Framing
 }
 
 // Reads the box as `next_box` does, outside that cycle, for callers that read one box: the compiler puts it into them.
-// Were `next_box` called from here, the index would take 1.45 of the instructions and a track of 10 KiB 1.15.
+// Were `next_box` called from here, the index would take 1.45 of the instructions and a track of 10 KiB 1.15,
+// over the bar of docs/SPEED.md, none slower than before.
 pub fn read_box(s: &[u8], at: usize, path: Path, base: usize, n: usize) -> Step
     requires { InReach base s.now }
     ensures { Read result s.now at path base n }
@@ -133,7 +137,8 @@ struct Wrote {
     row: usize,
 }
 
-// Writes four numbers from a place of the table.
+// Writes four numbers from a place of the table. One by one: by `copy_from_slice` of the four the index takes 1.23 to 1.25 of the instructions, over the bar
+// of docs/SPEED.md, none slower than before.
 fn put(t: &mut [u64], row: usize, offset: u64, size: u64, kind: u64, depth: u64)
     requires { row + 4 ≤ length t.old }
     ensures { t.new ≡ sets t.old row (offset ∷ size ∷ kind ∷ depth ∷ []) }
@@ -144,7 +149,8 @@ fn put(t: &mut [u64], row: usize, offset: u64, size: u64, kind: u64, depth: u64)
     t[row + 3] = depth;
 }
 
-// Writes the index of the box at a place, and of what is inside it, from a place of the table.
+// Writes the index of the box at a place, and of what is inside it, from a place of the table. `InReach` and the others stand in both contracts: no plainer
+// in one struct, since slice, path, base and depth are other ones in each box, and the table and its place at each.
 #[cycle(write_box_write_run)]
 fn write_box(
     s: &[u8],
@@ -176,7 +182,8 @@ fn write_box(
     Some(Wrote { next, row })
 }
 
-// Writes the index of a run of boxes from a place of the table; answers the place after it.
+// Writes the index of a run of boxes from a place of the table; answers the place after it. A loop and no `for`: no plainer, since an iterator
+// over `write_box` would hold the table, lent on at each step, and hand out the place in it.
 #[cycle(write_box_write_run)]
 fn write_run(s: &[u8], path: Path, base: usize, depth: u64, t: &mut [u64], row: usize) -> usize
     requires in_reach { InReach base s.now }

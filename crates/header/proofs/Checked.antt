@@ -15,7 +15,7 @@ use Rattle.header.specs.Bodies.{ValuesIn, BodiesAs}
 use Rattle.header.specs.Answers.{HeadsAs, HeadsUpTo}
 use Rattle.header.specs.declared.HeaderFacts.{HeaderFacts}
 use Rattle.header.specs.declared.HeaderFault.{HeaderFault}
-use Rattle.header.specs.declared.HeaderFault.TheVariants.{OfFtyp, OfMoov}
+use Rattle.header.specs.declared.HeaderFault.TheVariants.{FtypBody, NoBrand, OfMoov}
 use Rattle.header.specs.declared.containers.Located.{Located}
 use Rattle.header.specs.declared.bodies.Values.{Values}
 use Rattle.header.proofs.Own.{fair, fair_broken, own7, fair8, fair_values}
@@ -35,7 +35,7 @@ module _ (m : List ℕ) where
 
   module _ (seven : rule7 m ≡ Ok tt) where
     -- the body of `ftyp` is wrong
-    pub ftyp_wrong : HeadsSo (Err (OfFtyp 8)) None m
+    pub ftyp_wrong : HeadsSo (Err FtypBody) None m
     unfolding header_rules moved ◌then◌ rule8ftyp
     ftyp_wrong = (λ base. rw seven, tt)
 
@@ -54,7 +54,7 @@ module _ (m : List ℕ) where
 
       module _ (eight : rule8 m (places_by s) ≡ Ok tt) where
         -- no brand
-        pub nine_breaks : {b : Bool} → b ≡ false → HeadsSo (Err (OfFtyp 9)) (Some b) m
+        pub nine_breaks : {b : Bool} → b ≡ false → HeadsSo (Err NoBrand) (Some b) m
         unfolding header_rules moved ◌then◌ rule8ftyp rule9 must
         nine_breaks e = (λ base. rw (seven, ← h.places, eight, e), tt)
 

@@ -59,9 +59,9 @@ judged_join {m} p es fs e a b =
     record { is = j.is ∙ counts_join 7 m p es fs; low = j.low }
 
 -- rules that std's `and` joins
-pub joined : (r s : Rule) {t : Rule} → t ≡ result_and r s → t ≡ (r then s)
+pub then_of_and : (r s : Rule) {t : Rule} → t ≡ result_and r s → t ≡ (r then s)
 unfolding ◌then◌
-joined r s e = e
+then_of_and r s e = e
 
 -- counts that come to the same
 pub judged_as : {m : List ℕ} {p q t : Rule} → Judges m p t → p ≡ q → Judges m q t

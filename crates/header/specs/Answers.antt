@@ -4,7 +4,7 @@ use Rattle.rules.specs.Header.{header_rules, header_in, places_in}
 use Rattle.rules.specs.Rules.{breaks}
 use Rattle.header.specs.declared.HeaderFacts.{HeaderFacts}
 use Rattle.header.specs.declared.HeaderFault.{HeaderFault}
-use Rattle.header.specs.declared.HeaderFault.TheVariants.{OfFtyp, OfMoov}
+use Rattle.header.specs.declared.HeaderFault.TheVariants.{FtypBody, NoBrand, OfMoov}
 
 -- what the facts of a good header are
 pub record FactsIn (m : List ℕ) (x : HeaderFacts) : Type 0 where
@@ -15,11 +15,13 @@ pub record FactsIn (m : List ℕ) (x : HeaderFacts) : Type 0 where
 -- wherever `moov` stands: the rules hold, with the header's facts; or they break at `ftyp`; or at a place of `moov`, as a rule of one track
 abbrev pub HeadsAs : Result HeaderFacts HeaderFault → Option Bool → List ℕ → Type 0
 HeadsAs (Ok x) f m = FactsIn m x × ((base : ℕ) → header_rules base f m ≡ Ok tt)
-HeadsAs (Err (OfFtyp n)) f m = (base : ℕ) → header_rules base f m ≡ breaks n 0 0
+HeadsAs (Err FtypBody) f m = (base : ℕ) → header_rules base f m ≡ breaks 8 0 0
+HeadsAs (Err NoBrand) f m = (base : ℕ) → header_rules base f m ≡ breaks 9 0 0
 HeadsAs (Err (OfMoov e)) f m = (e.track ≡ 0) × ((base : ℕ) → header_rules base f m ≡ breaks e.number e.track (base + e.place))
 
 -- the places told are at most n
 abbrev pub HeadsUpTo : Result HeaderFacts HeaderFault → ℕ → Type 0
 HeadsUpTo (Ok x) n = (x.mdhd ≤ n) × (x.hdlr ≤ n)
-HeadsUpTo (Err (OfFtyp k)) n = Unit {0}
+HeadsUpTo (Err FtypBody) n = Unit {0}
+HeadsUpTo (Err NoBrand) n = Unit {0}
 HeadsUpTo (Err (OfMoov e)) n = e.place ≤ n

@@ -1,4 +1,6 @@
 // Rule 8 in `moov`: one reader a body, which answers what later rules need of it, or nothing where the body has another form.
+// `Stands` and `LocatedIn` stand in each contract beside the bytes. With the bytes and a ghost field in `Located` it is no plainer: every clause would read
+// `s.entry.m.now`, and every call of `fields` would take it apart again.
 ghost use Rattle.std.specs.Prelude.{◌≡◌, ◌+◌, ◌≤◌};
 ghost use Rattle.rules.specs.Fields.{either, at_least, field, timed};
 ghost use Rattle.boxes.specs.Stands.{Stands};
@@ -6,7 +8,7 @@ ghost use Rattle.header.specs.Places.{LocatedIn};
 ghost use Rattle.header.specs.Bodies.{SaysMvhd, SaysBody, SaysTrex, HeadsIn, BodiesAs};
 
 use crate::containers::Located;
-use fields::{Version, wrong_body};
+use fields::{Version, misformed};
 use rules::{Defaults, Refusal, Spot};
 
 // What `trex` tells: its track ID and its defaults.
@@ -89,24 +91,25 @@ fn read_trex(m: &[u8], b: Spot) -> Option<Trex>
 }
 
 // Rule 8 from `stts` on, after what was read before.
+#[tactic(auto, using(crate::proofs::Eight::past, crate::proofs::Eight::stop, crate::proofs::Eight::past_heads), unfolding(rules::specs::Header::rule8))]
 fn read_tables(m: &[u8], s: Located, heads: Heads) -> Result<Values, Refusal>
     requires { LocatedIn m.now s × HeadsIn m.now s heads }
     ensures { BodiesAs result m.now s }
 {
     let Some(stts) = read_least(m, s.minf.stts, 16, 4) else {
-        return Err(wrong_body(8, s.minf.stts));
+        return Err(misformed(8, s.minf.stts));
     };
     let Some(stsc) = read_least(m, s.minf.stsc, 16, 4) else {
-        return Err(wrong_body(8, s.minf.stsc));
+        return Err(misformed(8, s.minf.stsc));
     };
     let Some(stco) = read_least(m, s.minf.stco, 16, 4) else {
-        return Err(wrong_body(8, s.minf.stco));
+        return Err(misformed(8, s.minf.stco));
     };
     let Some(stsz) = read_least(m, s.minf.stsz, 20, 8) else {
-        return Err(wrong_body(8, s.minf.stsz));
+        return Err(misformed(8, s.minf.stsz));
     };
     let Some(trex) = read_trex(m, s.trex) else {
-        return Err(wrong_body(8, s.trex));
+        return Err(misformed(8, s.trex));
     };
     Ok(Values {
         heads,
@@ -119,24 +122,25 @@ fn read_tables(m: &[u8], s: Located, heads: Heads) -> Result<Values, Refusal>
 }
 
 // Rule 8 of the bodies in `moov`, in the paper's order.
+#[tactic(auto, using(crate::proofs::Eight::past, crate::proofs::Eight::stop), unfolding(rules::specs::Header::rule8))]
 pub fn read_bodies(m: &[u8], s: Located) -> Result<Values, Refusal>
     requires { LocatedIn m.now s }
     ensures { BodiesAs result m.now s }
 {
     let Some(_) = read_mvhd(m, s.mvhd) else {
-        return Err(wrong_body(8, s.mvhd));
+        return Err(misformed(8, s.mvhd));
     };
     let Some(id) = read_timed(m, s.trak.tkhd, 92, 104) else {
-        return Err(wrong_body(8, s.trak.tkhd));
+        return Err(misformed(8, s.trak.tkhd));
     };
     let Some(timescale) = read_timed(m, s.trak.mdhd, 32, 44) else {
-        return Err(wrong_body(8, s.trak.mdhd));
+        return Err(misformed(8, s.trak.mdhd));
     };
     let Some(handler) = read_least(m, s.trak.hdlr, 32, 8) else {
-        return Err(wrong_body(8, s.trak.hdlr));
+        return Err(misformed(8, s.trak.hdlr));
     };
     let Some(stsd) = read_least(m, s.minf.stsd, 16, 4) else {
-        return Err(wrong_body(8, s.minf.stsd));
+        return Err(misformed(8, s.minf.stsd));
     };
     let heads = Heads {
         id,

@@ -1,4 +1,5 @@
 // Rule 7, container by container: the counts of its boxes, and where the first of each stands in `moov`.
+// `StandsAt` and `LocatedIn` stand in each contract: no plainer in one struct with the bytes, as bodies.rt says.
 ghost use Rattle.rules.specs.Header.{trak_in, minf_in};
 ghost use Rattle.boxes.specs.Stands.{WholeBox, StandsAt};
 ghost use Rattle.header.specs.Places.{TrakIn, MinfIn, LocatedIn};

@@ -21,14 +21,11 @@ pub fn read_ftyp(f: &[u8], head: usize) -> Option<bool>
     ensures { result ≡ ftyp_in f.now }
 {
     let payload = f.len() - head;
-    if payload < 8 {
+    if payload < 8 || (payload - 8) % 4 != 0 {
         return None;
     }
-    if (payload - 8) % 4 != 0 {
-        return None;
-    }
-    for i in 0..(payload - 8) / 4 {
-        if is_brand(u32::near(f, head + 8 + 4 * i)) {
+    for brand in f[head + 8..].chunks_exact(4) {
+        if is_brand(u32::near(brand, 0)) {
             return Some(true);
         }
     }

@@ -1,4 +1,5 @@
 // Rules 7 to 13: the header, over what `ftyp` tells and the bytes of `moov`, whole. Every place is one in those bytes.
+// `WholeBox` and `LocatedIn` stand in the contracts beside the bytes: no plainer in one struct with them, as bodies.rt says.
 #![tactic(auto)]
 
 ghost use Rattle.std.specs.Prelude.{◌≡◌, length};
@@ -27,10 +28,11 @@ pub struct HeaderFacts {
     pub hdlr: usize,
 }
 
-// What is wrong with a header: a rule breaks at `ftyp`, by its number, or at a place of `moov`.
+// What is wrong with a header: rule 8 breaks at the body of `ftyp`, rule 9 at its brands, or a rule at a place of `moov`.
 #[derive(Clone, Copy)]
 pub enum HeaderFault {
-    OfFtyp(u64),
+    FtypBody,
+    NoBrand,
     OfMoov(Refusal),
 }
 
@@ -51,7 +53,7 @@ fn check_bodies(branded: bool, m: &[u8], s: Located) -> Result<HeaderFacts, Head
 {
     let v = read_bodies(m, s)?;
     if !branded {
-        return Err(HeaderFault::OfFtyp(9));
+        return Err(HeaderFault::NoBrand);
     }
     rules_of_values(m, s, v)?;
     let header = Header {
@@ -76,7 +78,7 @@ pub fn check_header(f: Option<bool>, m: &[u8], head: usize) -> Result<HeaderFact
     let s = locate_boxes(m, head);
     s.rule?;
     let Some(branded) = f else {
-        return Err(HeaderFault::OfFtyp(8));
+        return Err(HeaderFault::FtypBody);
     };
     check_bodies(branded, m, s)
 }

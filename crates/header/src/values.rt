@@ -1,4 +1,5 @@
 // Rules 10 to 13: timescale, track IDs, handler and media header, empty tables; over what the bodies tell.
+// `LocatedIn` stands in the contract: no plainer in one struct with the bytes, as bodies.rt says.
 ghost use Rattle.std.specs.Prelude.{◌≡◌};
 ghost use Rattle.rules.specs.Header.{pairs, rules_of_values};
 ghost use Rattle.header.specs.Places.{places_by, LocatedIn};

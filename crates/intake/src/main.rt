@@ -16,6 +16,7 @@ fn read_all(stdin: &mut impl Read, buf: &mut [u8]) -> io::Result<usize>
     ensures { IfOk result (λ n. n ≤ length buf.new) }
 {
     let mut done = 0;
+    // No `for`, no plainer: a read brings as many bytes as it likes, and nothing is counted.
     while done < buf.len() {
         let n = stdin.read(&mut buf[done..])?;
         if n == 0 {
@@ -27,7 +28,7 @@ fn read_all(stdin: &mut impl Read, buf: &mut [u8]) -> io::Result<usize>
 }
 
 // Writes a text to standard output: nothing but the answer to the input. Says why where it can't, but of a reader
-// that has left nothing.
+// that has left nothing. Not one function with stream's `show_lines`: their `requires` say what each prints, and must-fail edits speak of them.
 fn show(rt: &(impl Print + Eprint), input: &[u8], text: &[u8])
     requires { text.now ≡ printed input.now }
 {

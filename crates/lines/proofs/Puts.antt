@@ -1,19 +1,12 @@
 -- Laws of what is put behind one another into a buffer.
 use mathlib.Core.Path.{◌≡◌, sym, ap, ◌∙◌}
-use mathlib.Core.List.{List, [], ◌∷◌, ◌++◌}
-use Prim.Native.Nat.{ℕ, suc, ◌+◌, ◌≤◌}
-use native.Mathlib.Nat.{add-zero, add-suc, suc-add}
+use mathlib.Core.List.{List, ◌++◌}
+use Prim.Native.Nat.{ℕ, ◌+◌, ◌≤◌}
 use native.Mathlib.Omega.{arith}
-use lib.ListN.{length, take, drop, set, length-append}
+use lib.ListN.{length, take, drop, length-append}
 use lib.Seq.{sets, sets-eq, length-sets, length-take-le, take-append_seam}
+use Rattle.rules.proofs.Laws.{sets_append}
 use Rattle.lines.specs.Puts.{Put, Line}
-
--- what is put behind xs joins it
-pub seam : (l : List ℕ) (at : ℕ) (xs ys : List ℕ) → sets (sets l at xs) (at + length xs) ys ≡ sets l at (xs ++ ys)
-seam l at [] ys = rw add-zero
-seam l at (x ∷ xs) ys =
-    ap (λ (n : ℕ). sets (sets (set l at x) (suc at) xs) n ys) (add-suc at (length xs) ∙ sym (suc-add at (length xs)))
-    ∙ seam (set l at x) (suc at) xs ys
 
 -- what is put behind it joins it
 pub then : {l : List ℕ} {at : ℕ} {xs : List ℕ} {n : ℕ} {m ys : List ℕ} {n' : ℕ} {m' : List ℕ} → Put l at xs n m → Put m n ys n' m'
@@ -22,7 +15,7 @@ then {l} {at} {xs} {n} {m} {ys} {n'} {m'} p q =
     record {
       next = omega (arith, p.next, q.next, length-append xs ys);
       now_is = q.now_is ∙ ap (λ (k : ℕ). sets m k ys) p.next ∙ ap (λ (k : List ℕ). sets k (at + length xs) ys) p.now_is
-          ∙ seam l at xs ys;
+          ∙ sym (sets_append l at xs ys);
     }
 
 -- a whole line at the start

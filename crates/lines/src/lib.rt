@@ -31,6 +31,7 @@ impl<'a> Text<'a> {
     }
 
     // Puts bytes behind it.
+    #[tactic(auto, using(crate::proofs::Texts::copied))]
     fn put(&mut self, bytes: &[u8]) -> &mut Self
         requires { self.old.len + length bytes.now ≤ length self.old.buffer.now }
         ensures same { result.ghost_name ≡ self.entry.ghost_name }
@@ -43,6 +44,7 @@ impl<'a> Text<'a> {
     }
 
     // Puts a number's decimal digits behind it.
+    #[tactic(auto, using(crate::proofs::Digits::written))]
     fn number(&mut self, n: u64) -> &mut Self
         requires { self.old.len + 20 ≤ length self.old.buffer.now }
         ensures same { result.ghost_name ≡ self.entry.ghost_name }

@@ -156,6 +156,7 @@ impl BigEndian for u64 {
 }
 
 // Whether a flag, a power of two, is set. By a quotient and not by `&`: the clause speaks of every w above 0.
+#[tactic(auto, unfolding(crate::specs::Numbers::has))]
 pub fn has(flags: u32, w: u32) -> bool
     requires { 0 < w }
     ensures { result ≡ has flags w }
@@ -164,6 +165,7 @@ pub fn has(flags: u32, w: u32) -> bool
 }
 
 // Four bytes' number as a signed number of 32 bits.
+#[tactic(auto, using(crate::proofs::Signs::is_signed))]
 pub fn signed(x: u32) -> i32
     ensures { result ≡ signed x }
 {
@@ -171,6 +173,7 @@ pub fn signed(x: u32) -> i32
 }
 
 // Whether a signed number is the place e.
+#[tactic(auto, unfolding(crate::specs::Numbers::is_place))]
 pub fn is_place(o: i32, e: u64) -> bool
     ensures { result ≡ is_place o e }
 {

@@ -62,6 +62,7 @@ fn count_bytes(file: &mut impl Read, from: u64, buf: &mut [u8]) -> Result<u64, U
     ensures { IfOk result (λ n. from + n ≤ byte_limit) }
 {
     let mut end = from;
+    // No `for`, no plainer: a read brings as many bytes as it likes, and nothing is counted.
     while end <= LIMIT {
         let n = file.read(buf)?;
         if n == 0 {
@@ -160,6 +161,7 @@ fn copy(
 {
     let end = at + u64::from(size);
     let mut here = at;
+    // No `for`, no plainer: a pass writes as many bytes as it likes.
     while here < end {
         here += pass(rt, file, end - here, buf)?;
     }

@@ -11,7 +11,7 @@ use borrow.Author.Tests.{lt-ltb}
 use Rattle.numbers.specs.Numbers.{when}
 use Rattle.rules.specs.Limits.{byte_limit}
 use Rattle.rules.specs.Rules.{Judged, breaks}
-use Rattle.rules.proofs.Laws.{and_first, and_second}
+use Rattle.std.proofs.lemmas.Bool.{and_parts}
 use Rattle.pieces.specs.State.{state_of, sound_phase, sound_course, sound, comes_to, answer_of}
 use Rattle.pieces.specs.Form.{resume, FeedsFrom}
 use Rattle.pieces.specs.Steps.{FollowsState, TakesState, Sound, ComesSame, stopped_at}
@@ -52,8 +52,8 @@ module _ {st : Progress} {head₀ kept₀ piece rest : List ℕ} {state : Progre
         limit = g.limit;
         bytes = g.sound.bytes;
         room = g.sound.room;
-        phase = and_first _ (sound_course state.course state.boxes kept) g.sound.sound;
-        course = and_second (sound_phase state.phase state.course state.total head kept) _ g.sound.sound;
+        phase = (and_parts _ (sound_course state.course state.boxes kept) g.sound.sound).0;
+        course = (and_parts (sound_phase state.phase state.course state.total head kept) _ g.sound.sound).1;
       }
 
   -- and leads on

@@ -12,14 +12,14 @@ use Rattle.numbers.specs.Numbers.{when}
 use Rattle.rules.specs.Limits.{gather_limit}
 use Rattle.rules.specs.Boxes.{head_of, size_of}
 use Rattle.rules.specs.Rules.{Course, breaks}
-use Rattle.std.specs.Prelude.{Ok, Err}
+use Rattle.std.specs.Prelude.{Ok, Err, Some}
 use Rattle.rules.specs.declared.Reached.TheVariants.{Start, Typed, Headed, Halved, Paired}
-use Rattle.rules.proofs.Laws.{and_first, and_second}
+use Rattle.std.proofs.lemmas.Bool.{and_parts}
 use Rattle.pieces.specs.Rest.{rest}
 use Rattle.pieces.specs.State.{phase_of, state_of, moved_on, sound_course, halved, open_header, open_box, sound_phase, sound}
 use Rattle.pieces.specs.State.{kept_moof, comes_by, comes_to, answer_of, unstarted}
-use Rattle.pieces.specs.Form.{resume, FeedsFrom}
-use Rattle.pieces.specs.Steps.{Goes, first_anew}
+use Rattle.pieces.specs.Form.{resume, FeedsFrom, QuickAside, Amid}
+use Rattle.pieces.specs.Steps.{Goes, first_anew, CountsAside}
 use Rattle.pieces.specs.declared.state.Phase.{Phase}
 use Rattle.pieces.specs.declared.state.Phase.TheVariants.{Unstarted, Head, Keep, Skip, Stopped}
 use Rattle.pieces.specs.declared.state.Progress.{Progress}
@@ -54,9 +54,9 @@ pub open_says : (kept : List ℕ) (a : ℕ) → open_box kept a ≡ true → (he
 unfolding open_box
 open_says kept a o =
     let f = leb (head_of kept 0) a && ltb a (size_of kept 0) in (
-      leb-true _ _ (and_first _ _ (and_first f _ o)),
-      ltb-true _ _ (and_second (leb (head_of kept 0) a) _ (and_first f _ o)),
-      leb-true _ _ (and_second f _ o),
+      leb-true _ _ (and_parts _ _ (and_parts f _ o).0).0,
+      ltb-true _ _ (and_parts (leb (head_of kept 0) a) _ (and_parts f _ o).0).1,
+      leb-true _ _ (and_parts f _ o).1,
     )
 
 module _ (c : Course) (total n : ℕ) (head kept piece : List ℕ) where
@@ -180,9 +180,9 @@ unfolding moved_on
 after_move ns a total sum p e s = rw (e, s)
 
 -- a phase by its numbers with the first value anew
-first_of : (t x a b : ℕ) → phase_of t a b ≡ first_anew (phase_of t x b) a
+phase_anew : (t x a b : ℕ) → phase_of t a b ≡ first_anew (phase_of t x b) a
 unfolding phase_of
-first_of t x a b = by (eqb t 1) (eqb t 2) (eqb t 3) (eqb t 4)
+phase_anew t x a b = by (eqb t 1) (eqb t 2) (eqb t 3) (eqb t 4)
   where
     by : (h k s o : Bool) →
         when h (Head a) (when k (Keep a) (when s (Skip a b) (when o (Stopped (record { number = a; place = b })) Unstarted)))
@@ -202,7 +202,7 @@ unfolding resume
 goes_feeds ns ns' head kept piece head' kept' a total moved s g t =
     let p = phase_of (get_or ns 0 0) (get_or ns 1 0) (get_or ns 2 0) in
     let after : state_of ns' ≡ state_at (first_anew p a) (state_of ns).course (get_or ns 3 0 + length piece) (state_of ns).boxes =
-    moved ∙ after_move ns a total (get_or ns 3 0 + length piece) (first_anew p a) (first_of (get_or ns 0 0) (get_or ns 1 0) a (get_or ns 2 0)) s
+    moved ∙ after_move ns a total (get_or ns 3 0 + length piece) (first_anew p a) (phase_anew (get_or ns 0 0) (get_or ns 1 0) a (get_or ns 2 0)) s
     in
     by p (state_of ns) (state_of ns') (before_move ns p refl) after (g (state_of ns).course (get_or ns 3 0) (state_of ns).boxes)
   where
@@ -213,3 +213,39 @@ goes_feeds ns ns' head kept piece head' kept' a total moved s g t =
         ≡ when (sound st' head' kept') (answer_of (comes_to st' head' kept' t)) unstarted
     by p st st' u u' g =
         rw (u, u') (goes_on p (first_anew p a) (state_of ns).course (get_or ns 3 0) (state_of ns).boxes head kept piece head' kept' g t)
+
+-- the same by the phase's number
+module _ (ns ns' piece : List ℕ) (a total : ℕ) (moved : state_of ns' ≡ moved_on ns a total) where
+  -- a box passes by
+  pub passed_feeds : (head kept : List ℕ) → Amid 3 ns piece total → length piece < get_or ns 1 0 → a ≡ get_or ns 1 0 - length piece
+      → FeedsFrom ns head kept piece ns' head kept
+  unfolding phase_of
+  passed_feeds head kept m h e =
+      goes_feeds ns ns' head kept piece head kept a total moved m.sum
+      (λ c t n. rw (m.phase, e) (passes_on c t n head kept piece (get_or ns 1 0) (get_or ns 2 0) h))
+
+  -- a header's first bytes
+  pub headed_feeds : (head kept head' : List ℕ) → Amid 1 ns piece total → length head ≡ 16 → get_or ns 1 0 + length piece < 8
+      → a ≡ get_or ns 1 0 + length piece → head' ≡ paste head (get_or ns 1 0) piece (length piece) → FeedsFrom ns head kept piece ns' head' kept
+  unfolding phase_of
+  headed_feeds head kept head' m l h e w =
+      goes_feeds ns ns' head kept piece head' kept a total moved m.sum
+      (λ c t n. rw (m.phase, e, w) (heads_on c t n head kept piece (get_or ns 1 0) l h))
+
+  -- a gathered box
+  pub kept_feeds : (head kept kept' : List ℕ) → Amid 2 ns piece total → length kept ≡ gather_limit → open_box kept (get_or ns 1 0) ≡ true
+      → length piece < size_of kept 0 - get_or ns 1 0 → a ≡ get_or ns 1 0 + length piece
+      → kept' ≡ paste kept (get_or ns 1 0) piece (length piece) → FeedsFrom ns head kept piece ns' head kept'
+  unfolding phase_of
+  kept_feeds head kept kept' m l o h e w =
+      goes_feeds ns ns' head kept piece head kept' a total moved m.sum
+      (λ c t n. rw (m.phase, e, w) (keeps_on c t n head kept piece (get_or ns 1 0) l o h))
+
+-- numbers that are moved on in the phase of a box that passes by, where its bytes are counted alone
+pub quick_aside : (ns ns' head kept piece head' kept' : List ℕ) (a total : ℕ) → state_of ns' ≡ moved_on ns a total → total ≡ get_or ns 3 0 + length piece
+    → CountsAside (Some a) (phase_of (get_or ns 0 0) (get_or ns 1 0) (get_or ns 2 0)) head kept piece head' kept'
+    → QuickAside true ns head kept piece ns' head' kept'
+unfolding phase_of
+quick_aside ns ns' head kept piece head' kept' a total moved s g t =
+    let k = rw t at g in
+    (λ h d. passed_feeds ns ns' piece a total moved h d (record { phase = t; sum = s }) k.0 k.1, k.2, k.3)

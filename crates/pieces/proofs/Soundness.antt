@@ -13,7 +13,7 @@ use Rattle.rules.specs.Rules.{Course, Judged}
 use Rattle.std.specs.Prelude.{Ok, Err}
 use Rattle.rules.specs.declared.Reached.TheVariants.{Start, Typed, Headed, Halved, Paired}
 use Rattle.rules.specs.declared.Spot.{Spot}
-use Rattle.rules.proofs.Laws.{and_first, and_second, and_both}
+use Rattle.std.proofs.lemmas.Bool.{and_parts, and_from}
 use Rattle.pieces.specs.State.{few_fragments, kept_box, sound_course, halved, open_header, open_box, sound_phase, sound}
 use Rattle.pieces.specs.declared.state.Phase.{Phase}
 use Rattle.pieces.specs.declared.state.Phase.TheVariants.{Unstarted, Head, Keep, Skip, Stopped}
@@ -78,7 +78,7 @@ unless false = refl
 
 -- three tests that hold together hold each
 all_three : (a b c : Bool) → (a && b && c) ≡ true → (a ≡ true) × (b ≡ true) × (c ≡ true)
-all_three a b c e = let h = and_first (a && b) c e in (and_first a b h, and_second a b h, and_second (a && b) c e)
+all_three a b c e = let h = (and_parts (a && b) c e).0 in ((and_parts a b h).0, (and_parts a b h).1, (and_parts (a && b) c e).1)
 
 -- of two tests of which one holds, the first does or the second does
 either : (a b : Bool) → (a || b) ≡ true → (a ≡ true) ⊎ (b ≡ true)
@@ -101,12 +101,12 @@ box_says : (kept : List ℕ) (m : Spot) → kept_box kept m ≡ true → FrontBo
 unfolding kept_box
 box_says kept m e =
     let front = eqb (head_of kept 0) m.head && eqb (size_of kept 0) m.size && leb m.head m.size in
-    let t = all_three _ _ _ (and_first front _ e) in
+    let t = all_three _ _ _ (and_parts front _ e).0 in
     record {
       head = eqb-true _ _ t.0;
       size = eqb-true _ _ t.1;
       holds = leb-true _ _ t.2;
-      small = leb-true _ _ (and_second front _ e);
+      small = leb-true _ _ (and_parts front _ e).1;
     }
 
 says_box : (kept : List ℕ) (m : Spot) → FrontBox kept m → kept_box kept m ≡ true
@@ -140,7 +140,7 @@ unfolding open_header
 short_says head n e =
     ⊎_elim
     (λ a. inl (ltb-true _ _ a))
-    (λ b. inr (ltb-true _ _ (and_first _ _ b), eqb-true _ _ (and_second (ltb n 16) _ b)))
+    (λ b. inr (ltb-true _ _ (and_parts _ _ b).0, eqb-true _ _ (and_parts (ltb n 16) _ b).1))
     (either _ _ e)
 
 says_short : (head : List ℕ) (n : ℕ) → PartLength head n → open_header head n ≡ true
@@ -154,7 +154,7 @@ pub phase_says : (p : Phase) (c : Course) (total : ℕ) (head kept : List ℕ) �
 unfolding sound_phase open_box
 phase_says Unstarted c total head kept e = false≢true e
 phase_says (Head n) c total head kept e =
-    record { within = leb-true _ _ (and_first _ _ e); short = short_says head n (and_second (leb n total) _ e) }
+    record { within = leb-true _ _ (and_parts _ _ e).0; short = short_says head n (and_parts (leb n total) _ e).1 }
 phase_says (Keep n) c total head kept e =
     let t = all_three _ _ _ e in
     let b = all_three _ _ _ t.1 in
@@ -183,12 +183,12 @@ pub sound_says : (st : Progress) (head kept : List ℕ) → sound st head kept �
     → SoundPhase st.phase st.course st.total head kept × SoundCourse st.course st.boxes kept
 unfolding sound
 sound_says st head kept e = (
-  phase_says st.phase st.course st.total head kept (and_first _ _ e),
-  course_says st.course st.boxes kept (and_second (sound_phase st.phase st.course st.total head kept) _ e),
+  phase_says st.phase st.course st.total head kept (and_parts _ _ e).0,
+  course_says st.course st.boxes kept (and_parts (sound_phase st.phase st.course st.total head kept) _ e).1,
 )
 
 -- a state whose phase and course say so is sound
 pub says_sound : (st : Progress) (head kept : List ℕ)
     → SoundPhase st.phase st.course st.total head kept × SoundCourse st.course st.boxes kept → sound st head kept ≡ true
 unfolding sound
-says_sound st head kept h = and_both _ _ (says_phase st.phase st.course st.total head kept h.0) (says_course st.course st.boxes kept h.1)
+says_sound st head kept h = and_from _ _ (says_phase st.phase st.course st.total head kept h.0) (says_course st.course st.boxes kept h.1)

@@ -1,5 +1,5 @@
 -- The contracts of `start`, `feed` and `finish`: what the lent memory comes to if more bytes follow.
-use Rattle.std.specs.Prelude.{ℕ, Bool, true, false, List, [], ◌∷◌, ◌++◌, ◌≡◌}
+use Rattle.std.specs.Prelude.{ℕ, ◌+◌, Bool, true, false, List, [], ◌∷◌, ◌++◌, ◌≡◌, length, get_or}
 use Rattle.numbers.specs.Numbers.{when}
 use Rattle.rules.specs.Pieces.{answer_for}
 use Rattle.rules.specs.declared.Answer.{Answer}
@@ -58,3 +58,22 @@ FinishesFrom ns head kept r = Finishes (memory ns head kept) r
 abbrev pub QuickFrom : Bool → List ℕ → List ℕ → List ℕ → List ℕ → List ℕ → List ℕ → List ℕ → Type 0
 QuickFrom true ns head kept piece ns' head' kept' = FeedsFrom ns head kept piece ns' head' kept'
 QuickFrom false ns head kept piece ns' head' kept' = (ns' ≡ ns) × (head' ≡ head) × (kept' ≡ kept)
+
+-- the same where only the numbers can change, the header's bytes beside them, or the buffer
+abbrev pub QuickPassed : Bool → List ℕ → List ℕ → List ℕ → Type 0
+QuickPassed r ns piece ns' = (head kept : List ℕ) → QuickFrom r ns head kept piece ns' head kept
+
+abbrev pub QuickHeaded : Bool → List ℕ → List ℕ → List ℕ → List ℕ → List ℕ → Type 0
+QuickHeaded r ns head piece ns' head' = (kept : List ℕ) → QuickFrom r ns head kept piece ns' head' kept
+
+abbrev pub QuickKept : Bool → List ℕ → List ℕ → List ℕ → List ℕ → List ℕ → Type 0
+QuickKept r ns kept piece ns' kept' = (head : List ℕ) → QuickFrom r ns head kept piece ns' head kept'
+
+-- in the phase of a box that passes by only the numbers change, whatever the header's bytes and the buffer are: no byte of a piece is kept
+abbrev pub QuickAside : Bool → List ℕ → List ℕ → List ℕ → List ℕ → List ℕ → List ℕ → List ℕ → Type 0
+QuickAside r ns head kept piece ns' head' kept' = get_or ns 0 0 ≡ 3 → QuickPassed r ns piece ns' × (head' ≡ head) × (kept' ≡ kept)
+
+-- numbers in the phase of a number, and the bytes so far with a piece's
+pub record Amid (tag : ℕ) (ns piece : List ℕ) (total : ℕ) : Type 0 where
+  pub phase : get_or ns 0 0 ≡ tag
+  pub sum : total ≡ get_or ns 3 0 + length piece

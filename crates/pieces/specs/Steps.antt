@@ -131,12 +131,29 @@ pub record TakesSome (p : Phase) (c : Course) (total n : ℕ) (head kept more : 
   pub same : (t : List ℕ) → comes_by p c total n head kept (more ++ t)
       ≡ comes_by r.state.phase r.state.course r.state.total r.state.boxes head' kept' (drop r.used more ++ t)
 
--- both of a state
+-- the same, the memory as it was
+abbrev pub TakesAside : Phase → Course → ℕ → ℕ → List ℕ → List ℕ → List ℕ → Moved → Type 0
+TakesAside p c total n head kept more r = TakesSome p c total n head kept more r head kept
+
+-- where a box passes by, and behind a framing refusal, no byte is kept: the memory stays as it was
+abbrev pub StepsAside : Phase → Course → ℕ → ℕ → List ℕ → List ℕ → List ℕ → Moved → List ℕ → List ℕ → Type 0
+StepsAside Unstarted c total n head kept more r head' kept' = Unit {0}
+StepsAside (Head i) c total n head kept more r head' kept' = Unit {0}
+StepsAside (Keep i) c total n head kept more r head' kept' = Unit {0}
+StepsAside (Skip l p) c total n head kept more r head' kept' =
+    TakesAside (Skip l p) c total n head kept more r × (head' ≡ head) × (kept' ≡ kept)
+StepsAside (Stopped e) c total n head kept more r head' kept' =
+    TakesAside (Stopped e) c total n head kept more r × (head' ≡ head) × (kept' ≡ kept)
+
+-- each of a state
 abbrev pub FollowsState : Progress → List ℕ → List ℕ → List ℕ → Type 0
 FollowsState st head kept more = Follows st.phase st.course st.total st.boxes head kept more
 
 abbrev pub TakesState : Progress → List ℕ → List ℕ → List ℕ → Moved → List ℕ → List ℕ → Type 0
 TakesState st head kept more r head' kept' = TakesSome st.phase st.course st.total st.boxes head kept more r head' kept'
+
+abbrev pub StateAside : Progress → List ℕ → List ℕ → List ℕ → Moved → List ℕ → List ℕ → Type 0
+StateAside st head kept more r head' kept' = StepsAside st.phase st.course st.total st.boxes head kept more r head' kept'
 
 -- a sound state, in memory as long as it is
 pub record Sound (st : Progress) (head kept : List ℕ) : Type 0 where
@@ -167,3 +184,13 @@ first_anew (Stopped e) a = Stopped (record { number = a; place = e.place })
 abbrev pub GoesOn : Option ℕ → Phase → List ℕ → List ℕ → List ℕ → List ℕ → List ℕ → Type 0
 GoesOn (Some a) p head kept piece head' kept' = (c : Course) (total n : ℕ) → Goes p (first_anew p a) c total n head kept piece head' kept'
 GoesOn None p head kept piece head' kept' = (head' ≡ head) × (kept' ≡ kept)
+
+-- a piece in a box that passes by: as many bytes fewer are left, and none is kept, the memory stays as it was
+abbrev pub CountsAside : Option ℕ → Phase → List ℕ → List ℕ → List ℕ → List ℕ → List ℕ → Type 0
+CountsAside None p head kept piece head' kept' = Unit {0}
+CountsAside (Some a) Unstarted head kept piece head' kept' = Unit {0}
+CountsAside (Some a) (Head i) head kept piece head' kept' = Unit {0}
+CountsAside (Some a) (Keep i) head kept piece head' kept' = Unit {0}
+CountsAside (Some a) (Skip l p) head kept piece head' kept' =
+    (length piece < l) × (a ≡ l - length piece) × (head' ≡ head) × (kept' ≡ kept)
+CountsAside (Some a) (Stopped e) head kept piece head' kept' = Unit {0}

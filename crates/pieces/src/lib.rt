@@ -28,6 +28,7 @@ pub const NO_VERDICT: u64 = 18446744073709551615;
 pub const HEAD: usize = 16;
 
 // The first state.
+#[tactic(auto, using(crate::proofs::Begins::starts_at_lem))]
 pub fn start(numbers: &mut [u64; NUMBERS])
     ensures { StartsAnyway numbers.new }
 {
@@ -39,7 +40,8 @@ pub fn start(numbers: &mut [u64; NUMBERS])
     });
 }
 
-// Takes the bytes of a piece, step by step.
+// Takes the bytes of a piece, step by step. The C interface lends numbers, header and buffer as three, so `head` and `kept` go beside the state,
+// here, in `step` and in `quick`, and `Sound` stands in the contracts. A `while`, no plainer by `for`: each step says how many bytes it took.
 fn take_in(st: Progress, head: &mut [u8], kept: &mut [u8], piece: &[u8]) -> Progress
     requires { Sound st head.old kept.old × (st.total + length piece.now ≤ byte_limit) }
     ensures { ComesSame st head.old kept.old piece.now result head.new kept.new }
@@ -55,6 +57,7 @@ fn take_in(st: Progress, head: &mut [u8], kept: &mut [u8], piece: &[u8]) -> Prog
 }
 
 // A piece after a state: bytes over the byte limit are not looked at.
+#[tactic(auto, using(crate::proofs::Piecemeal::goes_over))]
 fn fed(st: Progress, head: &mut [u8], kept: &mut [u8], piece: &[u8]) -> Progress
     requires { Sound st head.old kept.old }
     ensures { ComesSame st head.old kept.old piece.now result head.new kept.new }
@@ -66,6 +69,7 @@ fn fed(st: Progress, head: &mut [u8], kept: &mut [u8], piece: &[u8]) -> Progress
 }
 
 // One piece more.
+#[tactic(auto, using(crate::proofs::Piecemeal::unsound_feeds, crate::proofs::Piecemeal::fed_feeds))]
 pub fn feed(
     numbers: &mut [u64; NUMBERS],
     head: &mut [u8; HEAD],
@@ -133,6 +137,7 @@ fn answer_of(j: Judged) -> Answer
 }
 
 // The answer for all the bytes since `start`; for numbers that are not sound, one that is no verdict.
+#[tactic(auto, unfolding(crate::specs::Form::resume))]
 pub fn finish(numbers: &[u64; NUMBERS], head: &[u8; HEAD], kept: &[u8; GATHER_LIMIT]) -> Answer
     ensures { FinishesFrom numbers.now head.now kept.now result }
 {

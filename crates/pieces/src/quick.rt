@@ -1,6 +1,6 @@
 // The quick way: a piece that ends in the middle of what the state is in the middle of, with no state decoded but its phase.
-ghost use Rattle.pieces.specs.Form.{QuickFrom};
-ghost use Rattle.pieces.specs.Steps.{GoesOn};
+ghost use Rattle.pieces.specs.Form.{QuickFrom, QuickAside};
+ghost use Rattle.pieces.specs.Steps.{GoesOn, CountsAside};
 
 use crate::state::{NUMBERS, Phase};
 use crate::{GATHER_LIMIT, HEAD, sound, state, step};
@@ -14,7 +14,8 @@ fn go_on(
     kept: &mut [u8; GATHER_LIMIT],
     piece: &[u8],
 ) -> Option<usize>
-    ensures { GoesOn result phase head.old kept.old piece.now head.new kept.new }
+    ensures goes { GoesOn result phase head.old kept.old piece.now head.new kept.new }
+    ensures aside { CountsAside result phase head.old kept.old piece.now head.new kept.new }
 {
     let n = piece.len();
     match phase {
@@ -39,7 +40,9 @@ pub fn quick(
     kept: &mut [u8; GATHER_LIMIT],
     piece: &[u8],
 ) -> bool
-    ensures { QuickFrom result numbers.old head.old kept.old piece.now
+    ensures feeds { QuickFrom result numbers.old head.old kept.old piece.now
+        numbers.new head.new kept.new }
+    ensures aside { QuickAside result numbers.old head.old kept.old piece.now
         numbers.new head.new kept.new }
 {
     let total = numbers[3] as usize;

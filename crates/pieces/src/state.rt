@@ -28,7 +28,7 @@ pub struct Progress {
     pub course: Course,
 }
 
-// The number of a case with its values.
+// The number of a case with its values: the lent memory of the C interface holds numbers alone, so a case is one here and in `CourseParts`.
 #[derive(Clone, Copy)]
 struct Tagged {
     tag: u64,
@@ -72,7 +72,7 @@ fn tick_from(tag: u64, a: u64) -> Option<u64>
     if tag == 1 { Some(a) } else { None }
 }
 
-// A number's low 32 bits.
+// A number's low 32 bits. A cast alone is refused where it may lose bits, and scribbled numbers may be longer.
 fn low32(n: u64) -> u32
     ensures { result ≡ low32 n }
 {
@@ -262,7 +262,7 @@ fn of_course(course: Course) -> CourseParts
     }
 }
 
-// The numbers of a state.
+// The numbers of a state. `encode` and `decode` are functions and no `From`: the C interface lends the numbers in this order, and as impls they are no plainer.
 pub fn encode(st: Progress) -> [u64; NUMBERS]
     ensures { state_of result ≡ st }
 {
@@ -332,6 +332,7 @@ pub fn encode(st: Progress) -> [u64; NUMBERS]
 }
 
 // The phase's first value and the bytes so far anew, and all others as they are.
+#[tactic(auto, using(crate::proofs::Numbers24::moves_on))]
 pub fn move_on(ns: &mut [u64; NUMBERS], a: u64, total: u64)
     ensures { state_of ns.new ≡ moved_on ns.old a total }
 {

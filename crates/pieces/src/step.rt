@@ -5,7 +5,7 @@ ghost use Rattle.rules.specs.Course.{and_box};
 ghost use Rattle.rules.specs.Pieces.{gathered};
 ghost use Rattle.track.specs.Course.{box_of, CourseFits, OwnHeld};
 ghost use Rattle.pieces.specs.Steps.{waits_in, stopped_at, beginning_at, header_end, passing_of, MeansAnyway, MeansHeaded, Gathered, after_gathered};
-ghost use Rattle.pieces.specs.Steps.{Whole, Gathers, PassesBy, after_passed, Follows, FollowsState, TakesSome, TakesState};
+ghost use Rattle.pieces.specs.Steps.{Whole, Gathers, PassesBy, after_passed, Follows, FollowsState, TakesSome, TakesState, StateAside};
 ghost use Rattle.pieces.specs.declared.state.Phase.TheVariants.{Head, Keep};
 
 use crate::GATHER_LIMIT;
@@ -25,6 +25,7 @@ pub struct Moved {
 }
 
 // Copies bytes to a place of a buffer. `copy_from_slice` calls `memmove`, which costs a piece of one byte a fifth more time.
+#[tactic(auto, using(std::proofs::lemmas::List::Edits::paste_more))]
 pub fn copy_in(to: &mut [u8], at: usize, from: &[u8])
     requires { at + length from.now ≤ length to.old }
     ensures { to.new ≡ paste to.old at from.now (length from.now) }
@@ -234,7 +235,8 @@ fn into_box(st: Progress, n: usize, head: &[u8], kept: &mut [u8], more: &[u8]) -
 // One step into the bytes that follow.
 pub fn step(st: Progress, head: &mut [u8], kept: &mut [u8], more: &[u8]) -> Moved
     requires { FollowsState st head.old kept.old more.now }
-    ensures { TakesState st head.old kept.old more.now result head.new kept.new }
+    ensures takes { TakesState st head.old kept.old more.now result head.new kept.new }
+    ensures aside { StateAside st head.old kept.old more.now result head.new kept.new }
 {
     match st.phase {
         Phase::Unstarted => Moved {

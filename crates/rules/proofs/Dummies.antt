@@ -16,7 +16,7 @@ use Rattle.rules.specs.Set.{track0}
 use Rattle.rules.specs.Player.{stuck, passed, play}
 use Rattle.rules.specs.Plans.{All, Over, Comparable, OneStuck, TicksDiffer, Player, ToldApart, HasFirstHalf, HasSecondHalf, HasStuckHalf}
 use Rattle.rules.specs.Sets.{t_accepted, t_fragments, single_accepted, shifted_accepted, single_alike, shifted_alike, set_of_t}
-use Rattle.rules.proofs.Laws.{and_both}
+use Rattle.std.proofs.lemmas.Bool.{and_from}
 use Rattle.rules.proofs.Plays.{Passes, passed_same}
 use Rattle.rules.proofs.FirstHalf.{first_half}
 use Rattle.rules.proofs.SecondHalf.{stays, second_half, second_half_27}
@@ -101,7 +101,7 @@ names n (i ∷ plan) = ltb i n && names n plan
 all_named : (n : ℕ) (plan : List ℕ) → All (λ i. i < n) plan → names n plan ≡ true
 unfolding names
 all_named n [] a = refl
-all_named n (i ∷ plan) a = and_both (ltb i n) (names n plan) (lt-ltb i n a.0) (all_named n plan a.1)
+all_named n (i ∷ plan) a = and_from (ltb i n) (names n plan) (lt-ltb i n a.0) (all_named n plan a.1)
 
 -- nor is the table of track 0 that is stuck where a choice names no track, and only there
 pub named_table_player : Player

@@ -228,15 +228,6 @@ module _ (s : List ℕ) (at : ℕ) where
   pub boxes_nothing : look s at ≡ Nothing → boxes s at ≡ []
   boxes_nothing = boxes_by s at Nothing
 
-  pub boxes_short : look s at ≡ Short → boxes s at ≡ []
-  boxes_short = boxes_by s at Short
-
-  pub boxes_small : look s at ≡ Small → boxes s at ≡ []
-  boxes_small = boxes_by s at Small
-
-  pub boxes_beyond : look s at ≡ Beyond → boxes s at ≡ []
-  boxes_beyond = boxes_by s at Beyond
-
   pub boxes_box : (h z k : ℕ) → look s at ≡ Good h z k → boxes s at ≡ record { at = at; inner = h; size = z; kind = k } ∷ boxes s (at + z)
   boxes_box h z k = boxes_by s at (Good h z k)
 

@@ -10,7 +10,7 @@ use Rattle.numbers.specs.Numbers.{when}
 use Rattle.rules.specs.Track.{Fragment, continuing, begun_among, in_fragments, first_moofs}
 use Rattle.rules.specs.Course.{each_sync}
 use Rattle.rules.specs.Plans.{All}
-use Rattle.rules.proofs.Laws.{and_first, and_second}
+use Rattle.std.proofs.lemmas.Bool.{and_parts}
 
 -- the chunks of a fragment, and those of fragments, one behind the other
 abbrev pub chunks_of : Fragment → List ℕ
@@ -33,23 +33,10 @@ abbrev pub begun : (ℕ → Bool) → ℕ → List ℕ → Fragment
 begun sync x xs = record { first = x; others = continuing sync xs }
 
 module _ (sync : ℕ → Bool) where
-  -- a sync chunk begins a fragment and continues none
+  -- a sync chunk begins a fragment
   pub begins_one_lem : (x : ℕ) (xs : List ℕ) → sync x ≡ true → begun_among sync (x ∷ xs) ≡ begun sync x xs ∷ begun_among sync xs
   unfolding begun_among
   begins_one_lem x xs e = rw e
-
-  pub continues_none : (x : ℕ) (xs : List ℕ) → sync x ≡ true → continuing sync (x ∷ xs) ≡ []
-  unfolding continuing
-  continues_none x xs e = rw e
-
-  -- a non-sync chunk begins none and continues one
-  pub begins_none : (x : ℕ) (xs : List ℕ) → sync x ≡ false → begun_among sync (x ∷ xs) ≡ begun_among sync xs
-  unfolding begun_among
-  begins_none x xs e = rw e
-
-  pub continues_one : (x : ℕ) (xs : List ℕ) → sync x ≡ false → continuing sync (x ∷ xs) ≡ x ∷ continuing sync xs
-  unfolding continuing
-  continues_one x xs e = rw e
 
   -- a track's first chunk that is sync begins a fragment as any other does
   pub opens_alike : (x : ℕ) (xs : List ℕ) → sync x ≡ true → in_fragments sync (x ∷ xs) ≡ begun_among sync (x ∷ xs)
@@ -184,14 +171,14 @@ module _ (sync : ℕ → Bool) where
   unfolding each_sync begun_among
   each_begins [] h = refl
   each_begins (x ∷ xs) h =
-      ap first_moofs (begins_one_lem x xs (and_first (sync x) (each_sync sync xs) h))
-      ∙ ap {B = List ℕ} (λ (ys : List ℕ). x ∷ ys) (each_begins xs (and_second (sync x) (each_sync sync xs) h))
+      ap first_moofs (begins_one_lem x xs (and_parts (sync x) (each_sync sync xs) h).0)
+      ∙ ap {B = List ℕ} (λ (ys : List ℕ). x ∷ ys) (each_begins xs (and_parts (sync x) (each_sync sync xs) h).1)
 
   pub each_fragment : (xs : List ℕ) → each_sync sync xs ≡ true → first_moofs (in_fragments sync xs) ≡ xs
   unfolding in_fragments each_sync
   each_fragment [] h = refl
   each_fragment (x ∷ xs) h =
-      ap {B = List ℕ} (λ (ys : List ℕ). x ∷ ys) (each_begins xs (and_second (sync x) (each_sync sync xs) h))
+      ap {B = List ℕ} (λ (ys : List ℕ). x ∷ ys) (each_begins xs (and_parts (sync x) (each_sync sync xs) h).1)
 
 -- two tests that agree on chunks group them alike
 module _ (sync also : ℕ → Bool) where

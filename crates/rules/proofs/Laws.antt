@@ -1,33 +1,15 @@
 -- General laws: tests joined, and elements of lists by their number.
-use mathlib.Core.Path.{◌≡◌, refl, sym, ap, subst}
-use mathlib.Core.Bool.{Bool, true, false, not, ◌&&◌, ◌||◌, true≢false, false≢true}
+use mathlib.Core.Path.{◌≡◌, refl, sym, ap, subst, ◌∙◌}
+use mathlib.Core.Bool.{Bool, true, ◌&&◌}
 use mathlib.Core.Option.{Option, none, some, none-ne-some, some-injective}
-use mathlib.Core.List.{List, [], ◌∷◌, map, nil≢cons, head-eq_of_cons-eq, tail-eq_of_cons-eq}
-use Prim.Native.Nat.{ℕ, zero, suc, ◌≤◌, ◌<◌}
+use mathlib.Core.List.{List, [], ◌∷◌, ◌++◌, map, nil≢cons, head-eq_of_cons-eq, tail-eq_of_cons-eq}
+use Prim.Native.Nat.{ℕ, zero, suc, ◌+◌, ◌≤◌, ◌<◌}
 use native.Mathlib.Nat.{not-suc-le-zero, le_of_suc-le-suc}
 use native.Mathlib.Omega.{arith}
 use lib.ListN.{length, get_elem?, drop}
+use lib.Seq.{sets}
+use Rattle.std.proofs.lemmas.Bool.{and_parts}
 use Rattle.rules.specs.Plans.{All}
-
--- tests joined
-pub and_first : (a b : Bool) → (a && b) ≡ true → a ≡ true
-and_first true b h = refl
-and_first false b h = absurd (false≢true h)
-
-pub and_second : (a b : Bool) → (a && b) ≡ true → b ≡ true
-and_second true b h = h
-and_second false b h = absurd (false≢true h)
-
-pub no_and : (a : Bool) → (a && false) ≡ false
-no_and true = refl
-no_and false = refl
-
-pub and_both : (a b : Bool) → a ≡ true → b ≡ true → (a && b) ≡ true
-and_both a b h k = rw (h, k)
-
-pub or_second : (a b : Bool) → a ≡ false → (a || b) ≡ true → b ≡ true
-or_second true b h k = absurd (true≢false h)
-or_second false b h k = k
 
 -- four tests joined: they hold where each does, and each does where they hold
 module _ (a b c d : Bool) where
@@ -36,17 +18,10 @@ module _ (a b c d : Bool) where
 
   pub each_on : (a && b && c && d) ≡ true → (a ≡ true) × (b ≡ true) × (c ≡ true) × (d ≡ true)
   each_on h =
-      let h₃ = and_first (a && b && c) d h in
-      let h₂ = and_first (a && b) c h₃ in
-      (and_first a b h₂, and_second a b h₂, and_second (a && b) c h₃, and_second (a && b && c) d h)
-
-pub not_on : (a : Bool) → not a ≡ true → a ≡ false
-not_on true h = absurd (false≢true h)
-not_on false h = refl
-
-pub not_off : (a : Bool) → not a ≡ false → a ≡ true
-not_off true h = refl
-not_off false h = absurd (true≢false h)
+      let (h₃, k₄) = and_parts (a && b && c) d h in
+      let (h₂, k₃) = and_parts (a && b) c h₃ in
+      let (k₁, k₂) = and_parts a b h₂ in
+      (k₁, k₂, k₃, k₄)
 
 module _ {A : Type 0} where
   -- a property of every element is one of the i-th
@@ -101,3 +76,8 @@ pub is_below : {A : Type 0} (xs : List A) (i : ℕ) (x : A) → get_elem? xs i �
 is_below [] i x e = absurd (none-ne-some x e)
 is_below (y ∷ ys) zero x e = omega arith
 is_below (y ∷ ys) (suc i) x e = let h = is_below ys i x e in omega (arith, h)
+
+-- a run of stores, in two parts
+pub sets_append : (t : List ℕ) (i : ℕ) (xs ys : List ℕ) → sets t i (xs ++ ys) ≡ sets (sets t i xs) (i + length xs) ys
+sets_append t i [] ys = ap (λ n. sets t n ys) (omega arith)
+sets_append t i (x ∷ xs) ys = sets_append (sets t i (x ∷ [])) (suc i) xs ys ∙ ap (λ n. sets (sets t i (x ∷ xs)) n ys) (omega arith)

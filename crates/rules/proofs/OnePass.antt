@@ -1,7 +1,7 @@
 -- The law of one pass: the course over a slice comes to rule 6, then the header's rules, then the chunks', with what is known of the track.
 use mathlib.Core.Path.{◌≡◌, refl, sym, ap, ap₂, subst, ◌∙◌}
 use mathlib.Core.List.{List, [], ◌∷◌}
-use mathlib.Core.Bool.{Bool, true, false, ◌&&◌, ◌||◌, true≢false}
+use mathlib.Core.Bool.{Bool, true, false, ◌&&◌, ◌||◌}
 use Prim.Native.Nat.{ℕ, ◌+◌, ◌-◌, ◌≤◌}
 use native.Mathlib.Nat.{zero-add}
 use native.Mathlib.Omega.{arith}
@@ -27,6 +27,8 @@ use Rattle.rules.specs.declared.Seen.TheVariants.{Once}
 use Rattle.rules.specs.declared.Stage.{Stage}
 use Rattle.rules.specs.declared.Stage.TheVariants as stage
 use Rattle.rules.specs.declared.TrackFacts.{TrackFacts}
+use Rattle.std.proofs.Math.Bool.{and-true, and_assoc}
+use Rattle.std.proofs.lemmas.Bool.{or_parts, or_left, or_right}
 use Rattle.rules.proofs.Then.{then_assoc}
 use Rattle.rules.proofs.Forest.{FoundBox}
 use Rattle.rules.proofs.Walk.{Siblings, boxes_siblings, mdat_next}
@@ -87,15 +89,12 @@ abbrev left : List ℕ → ℕ → Course → List Box → Judged
 left s len c xs = behind (order_left len c xs) (rules_left s c xs)
 
 -- a type that the order doesn't speak of is no `moov` and no `moof`
-or_inner : (a b c d : Bool) → (a || b || c || d) ≡ false → (b ≡ false) × (c ≡ false)
-or_inner true b c d e = absurd (true≢false e)
-or_inner false true c d e = absurd (true≢false e)
-or_inner false false true d e = absurd (true≢false e)
-or_inner false false false d e = (refl, refl)
-
 pub unspoken : (k : ℕ) → ordered k ≡ false → (eqb k moov ≡ false) × (eqb k moof ≡ false)
 unfolding ordered
-unspoken k e = or_inner (eqb k ftyp) (eqb k moov) (eqb k moof) (eqb k mdat) e
+unspoken k e =
+    let (three, _) = or_parts (eqb k ftyp || eqb k moov || eqb k moof) (eqb k mdat) e in
+    let (two, c) = or_parts (eqb k ftyp || eqb k moov) (eqb k moof) three in
+    ((or_parts (eqb k ftyp) (eqb k moov) two).1, c)
 
 -- boxes whose first is a `moof`, and is none
 moof_hit : (x : Box) (xs : List Box) → eqb x.kind moof ≡ true → places_of moof (x ∷ xs) ≡ x.at ∷ places_of moof xs
@@ -121,27 +120,6 @@ unfolding seen_from wanted
 moov_miss x xs e = rw e
 
 -- a type of the four is one that the order speaks of
-or_first : (a b c d : Bool) → a ≡ true → (a || b || c || d) ≡ true
-or_first true b c d e = refl
-or_first false b c d e = absurd (true≢false (sym e))
-
-or_second : (a b c d : Bool) → b ≡ true → (a || b || c || d) ≡ true
-or_second true b c d e = refl
-or_second false true c d e = refl
-or_second false false c d e = absurd (true≢false (sym e))
-
-or_third : (a b c d : Bool) → c ≡ true → (a || b || c || d) ≡ true
-or_third true b c d e = refl
-or_third false true c d e = refl
-or_third false false true d e = refl
-or_third false false false d e = absurd (true≢false (sym e))
-
-or_last : (a b c d : Bool) → d ≡ true → (a || b || c || d) ≡ true
-or_last true b c d e = refl
-or_last false true c d e = refl
-or_last false false true d e = refl
-or_last false false false d e = e
-
 pub spoken : (k : ℕ) → (eqb k ftyp ≡ true → ordered k ≡ true) × (eqb k moov ≡ true → ordered k ≡ true) × (eqb k moof ≡ true → ordered k ≡ true) × (eqb k mdat ≡ true → ordered k ≡ true)
 unfolding ordered
 spoken k =
@@ -149,7 +127,12 @@ spoken k =
     let b = eqb k moov in
     let c = eqb k moof in
     let d = eqb k mdat in
-    (or_first a b c d, or_second a b c d, or_third a b c d, or_last a b c d)
+    let here = or_left (a || b || c) d in (
+      λ e. here (or_left (a || b) c (or_left a b e)),
+      λ e. here (or_left (a || b) c (or_right a b e)),
+      λ e. here (or_right (a || b) c e),
+      or_right (a || b || c) d,
+    )
 
 -- what holds of the broken order at a box, of what the box brings, and of a stage that others may follow, holds after the box
 module _ (P : Course → Type 0) (own w : List ℕ) (x : Box) (b : P (Err x.at)) where
@@ -354,14 +337,6 @@ grown_by s f xs =
       end = last_end s f.header f.end xs;
     }
 
-and_true : (a : Bool) → a ≡ (a && true)
-and_true true = refl
-and_true false = refl
-
-and_and : (a b c : Bool) → ((a && b) && c) ≡ (a && (b && c))
-and_and true b c = refl
-and_and false b c = refl
-
 -- facts with another count, another mark and another first start
 abbrev facts_by : TrackFacts → Option ℕ → ℕ → Bool → Option ℕ → TrackFacts
 facts_by f e n b a = record { header = f.header; mdhd = f.mdhd; hdlr = f.hdlr; fragments = n; plain = b; start = a; end = e }
@@ -371,7 +346,7 @@ unfolding grown_by last_end each_sync
 grown_none s f =
     let n : f.fragments ≡ f.fragments + length (begun_after f.end (sync_at s f.header) []) = omega (arith, begun_none f.end (sync_at s f.header)) in
     ap (λ (k : ℕ). facts_by f f.end k f.plain f.start) n
-    ∙ ap₂ (λ (b : Bool) (a : Option ℕ). facts_by f f.end (f.fragments + length (begun_after f.end (sync_at s f.header) [])) b a) (and_true f.plain)
+    ∙ ap₂ (λ (b : Bool) (a : Option ℕ). facts_by f f.end (f.fragments + length (begun_after f.end (sync_at s f.header) [])) b a) (sym (and-true f.plain))
     (first_or_none f.start)
 
 grown_on : (s : List ℕ) (f : TrackFacts) (x : ℕ) (xs : List ℕ) → grown_by s (grown f (whole s x)) xs ≡ grown_by s f (x ∷ xs)
@@ -381,7 +356,7 @@ grown_on s f x xs =
     let end = last_end s f.header (Some (end_at s f.header x)) xs in
     let was = f.fragments + when (begins_one f.end (sync x)) 1 0 + length (begun_among sync xs) in
     let n : was ≡ f.fragments + length (begun_after f.end sync (x ∷ xs)) = omega (arith, begun_one f.end sync x xs) in
-    ap₂ (λ (b : Bool) (a : Option ℕ). facts_by f end was b a) (and_and f.plain (sync x) (each_sync sync xs)) (first_or_tick f.start (start_at s x) (first_tick_of s xs))
+    ap₂ (λ (b : Bool) (a : Option ℕ). facts_by f end was b a) (and_assoc f.plain (sync x) (each_sync sync xs)) (first_or_tick f.start (start_at s x) (first_tick_of s xs))
     ∙ ap (λ (k : ℕ). facts_by f end k (f.plain && (sync x && each_sync sync xs)) (tick_or f.start (Some (start_at s x)))) n
 
 behind_rule : (s : List ℕ) (r : Rule) (f : TrackFacts) (xs : List ℕ)

@@ -32,7 +32,7 @@ n_28 last (x ∷ xs) ys ps = n_then _ _ (n_must _ 28 _ refl) (n_28 _ xs _ _)
 
 n_agrees : (s₀ s : List ℕ) → Numbered set_numbers (agrees s₀ s)
 unfolding agrees same rule28 member
-n_agrees s₀ s = search (n_then, n_must, n_28, refl) depth 30
+n_agrees s₀ s = search (n_then, n_must, n_28) depth 30
 
 n_rulings : (k : ℕ) (ss : List (List ℕ)) → Numbered track_numbers (rulings k ss)
 unfolding rulings

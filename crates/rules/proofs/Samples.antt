@@ -17,7 +17,7 @@ use Rattle.rules.specs.Chunk.{count_of, bytes_of, sum_to, run_bytes, runs_in, de
 use Rattle.rules.specs.Track.{header_of, mdat_at}
 use Rattle.rules.specs.Player.{samples_fed, run_start, runs_fed, fed_at}
 use Rattle.rules.specs.declared.Defaults.{Defaults}
-use Rattle.rules.proofs.Laws.{and_first, and_second, and_both}
+use Rattle.std.proofs.lemmas.Bool.{and_parts, and_from}
 
 -- of a sample: where its bytes begin in the track, the next byte of the data box, and its size
 abbrev pub OfSample : Type 1
@@ -76,19 +76,19 @@ module _ (m : List ℕ) (d : Defaults) (r : ℕ) (start : ℤ) (next till : ℕ)
   whole_run : (n : ℕ) → samples_fed m d r start next till n ≡ true → (i : ℕ) → i < n → SampleAt (whole_sample till) m d r start next i
   unfolding samples_fed sum_to here inside
   whole_run zero h i l = absurd (not-suc-le-zero l)
-  whole_run (suc n) h i l = go (ℕ_discrete i n) (whole_run n (and_first (samples_fed m d r start next till n) (here n) both) i)
+  whole_run (suc n) h i l = go (ℕ_discrete i n) (whole_run n (and_parts (samples_fed m d r start next till n) (here n) both).0 i)
     where
       both : (samples_fed m d r start next till n && here n) ≡ true
-      both = and_first (samples_fed m d r start next till n && here n) (inside n) h
+      both = (and_parts (samples_fed m d r start next till n && here n) (inside n) h).0
 
       last : SampleAt (whole_sample till) m d r start next n
       last = (
         place_is (start +ℤ pos (sum_to (bytes_of m d r) n)) (next + sum_to (bytes_of m d r) n)
-            (and_second (samples_fed m d r start next till n) (here n) both),
+            (and_parts (samples_fed m d r start next till n) (here n) both).1,
         omega (
           arith,
           leb-true (next + (sum_to (bytes_of m d r) n + bytes_of m d r n)) till
-              (and_second (samples_fed m d r start next till n && here n) (inside n) h),
+              (and_parts (samples_fed m d r start next till n && here n) (inside n) h).1,
         ),
       )
 
@@ -102,8 +102,8 @@ module _ (m : List ℕ) (d : Defaults) (r : ℕ) (start : ℤ) (next till : ℕ)
   run_whole zero f = refl
   run_whole (suc n) f =
       let w = f n (omega arith) in
-      and_both (samples_fed m d r start next till n && here n) (inside n)
-      (and_both (samples_fed m d r start next till n) (here n) (run_whole n (λ i l. f i (omega arith)))
+      and_from (samples_fed m d r start next till n && here n) (inside n)
+      (and_from (samples_fed m d r start next till n) (here n) (run_whole n (λ i l. f i (omega arith)))
       (is_place_lem (start +ℤ pos (sum_to (bytes_of m d r) n)) (next + sum_to (bytes_of m d r) n) w.0))
       (le-leb (next + (sum_to (bytes_of m d r) n + bytes_of m d r n)) till (omega (arith, w.1)))
 
@@ -114,7 +114,7 @@ unfolding runs_fed
 every_fed x m d before next till [] h = refl
 every_fed x m d before next till (r ∷ rs) h =
     let start = run_start x m before r in
-    and_both (samples_fed m d r start next till (count_of m r)) (runs_fed x m d (start +ℤ pos (run_bytes m d r)) (next + run_bytes m d r) till rs)
+    and_from (samples_fed m d r start next till (count_of m r)) (runs_fed x m d (start +ℤ pos (run_bytes m d r)) (next + run_bytes m d r) till rs)
     (run_whole m d r start next till (count_of m r) h.0)
     (every_fed x m d (start +ℤ pos (run_bytes m d r)) (next + run_bytes m d r) till rs h.1)
 
@@ -126,8 +126,8 @@ fed_every x m d before next till (r ∷ rs) h =
     let start = run_start x m before r in
     let first = samples_fed m d r start next till (count_of m r) in
     let rest = runs_fed x m d (start +ℤ pos (run_bytes m d r)) (next + run_bytes m d r) till rs in (
-      whole_run m d r start next till (count_of m r) (and_first first rest h),
-      fed_every x m d (start +ℤ pos (run_bytes m d r)) (next + run_bytes m d r) till rs (and_second first rest h),
+      whole_run m d r start next till (count_of m r) (and_parts first rest h).0,
+      fed_every x m d (start +ℤ pos (run_bytes m d r)) (next + run_bytes m d r) till rs (and_parts first rest h).1,
     )
 
 -- what holds of every sample fails of none

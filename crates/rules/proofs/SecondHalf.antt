@@ -23,12 +23,12 @@ use Rattle.rules.proofs.Boundaries.{a_fragment, as_many}
 use Rattle.rules.proofs.Plays.{all_stay, plays_alone, too_long}
 
 -- a refusal with this number, track and place
-abbrev pub Refusal : Rule → ℕ → ℕ → ℕ → Type 0
-Refusal (Ok u) n t p = ⊥
-Refusal (Err e) n t p = (e.number ≡ n) × (e.track ≡ t) × (e.place ≡ p)
+abbrev pub Refuses : Rule → ℕ → ℕ → ℕ → Type 0
+Refuses (Ok u) n t p = ⊥
+Refuses (Err e) n t p = (e.number ≡ n) × (e.track ≡ t) × (e.place ≡ p)
 
-pub is_refusal : (r : Rule) (n t p : ℕ) → r ≡ breaks n t p → Refusal r n t p
-is_refusal r n t p e = subst (λ (q : Rule). Refusal q n t p) (sym e) (refl, refl, refl)
+pub is_refusal : (r : Rule) (n t p : ℕ) → r ≡ breaks n t p → Refuses r n t p
+is_refusal r n t p e = subst (λ (q : Rule). Refuses q n t p) (sym e) (refl, refl, refl)
 
 -- k is the first number at which a list differs from another
 abbrev pub FirstDiffers : List ℕ → List ℕ → ℕ → Type 0
@@ -50,13 +50,13 @@ pub data Difference (s₀ s : List ℕ) (n p : ℕ) : Type 0 where
   of28 : n ≡ 28 → fragment_count s ≡ fragment_count s₀ → (boundaries s ≡ boundaries s₀ → ⊥) → StandsAt28 s₀ s p → Difference s₀ s n p
 
 -- rule 28 gives no other number, and holds of a list beside itself
-only_28 : (last : ℕ) (xs ys ps : List ℕ) (n t p : ℕ) → Refusal (rule28_from last xs ys ps) n t p → n ≡ 28
+only_28 : (last : ℕ) (xs ys ps : List ℕ) (n t p : ℕ) → Refuses (rule28_from last xs ys ps) n t p → n ≡ 28
 unfolding rule28_from must ◌then◌
 only_28 last [] ys ps n t p h = absurd h
 only_28 last (x ∷ xs) ys ps n t p h = go (eqb (first_or 0 ys) x) h (only_28 (first_or last ps) xs (drop 1 ys) (drop 1 ps) n t p)
   where
-    go : (b : Bool) → Refusal (must b 28 (first_or last ps) then rule28_from (first_or last ps) xs (drop 1 ys) (drop 1 ps)) n t p
-        → (Refusal (rule28_from (first_or last ps) xs (drop 1 ys) (drop 1 ps)) n t p → n ≡ 28) → n ≡ 28
+    go : (b : Bool) → Refuses (must b 28 (first_or last ps) then rule28_from (first_or last ps) xs (drop 1 ys) (drop 1 ps)) n t p
+        → (Refuses (rule28_from (first_or last ps) xs (drop 1 ys) (drop 1 ps)) n t p → n ≡ 28) → n ≡ 28
     go true y f = f y
     go false y f = sym y.0
 
@@ -90,7 +90,7 @@ at_the_last last q [] (suc k) l = ap {B = Option ℕ} some (sym (none_left q k))
 at_the_last last q (r ∷ rs) (suc k) l = at_the_last q r rs k (le_of_suc-le-suc l)
 
 -- a refusal under 28 stands at the first boundary that differs
-stands : (last : ℕ) (xs ys ps : List ℕ) (n t p : ℕ) → length ys ≡ length xs → Refusal (rule28_from last xs ys ps) n t p
+stands : (last : ℕ) (xs ys ps : List ℕ) (n t p : ℕ) → length ys ≡ length xs → Refuses (rule28_from last xs ys ps) n t p
     → (k : ℕ) × FirstDiffers ys xs k × (place_at last ps k ≡ p)
 unfolding rule28_from must ◌then◌ place_at
 stands last [] ys ps n t p l h = absurd h
@@ -104,15 +104,15 @@ stands last (x ∷ xs) (y ∷ ys) ps n t p l h = go (eqb y x) refl h (stands (fi
     before k e f zero u = e
     before k e f (suc i) u = f i (le_of_suc-le-suc u)
 
-    go : (b : Bool) → eqb y x ≡ b → Refusal (must b 28 (first_or last ps) then rest) n t p
-        → (Refusal rest n t p → (k : ℕ) × FirstDiffers ys xs k × (place_at (first_or last ps) (drop 1 ps) k ≡ p))
+    go : (b : Bool) → eqb y x ≡ b → Refuses (must b 28 (first_or last ps) then rest) n t p
+        → (Refuses rest n t p → (k : ℕ) × FirstDiffers ys xs k × (place_at (first_or last ps) (drop 1 ps) k ≡ p))
         → (k : ℕ) × FirstDiffers (y ∷ ys) (x ∷ xs) k × (place_at last ps k ≡ p)
     go true e r f =
         let w = f r in (suc w.0, (omega (arith, w.1.0), before w.0 (eqb-true y x e) w.1.1, w.1.2), w.2)
     go false e r f = (0, (omega arith, λ i u. absurd (not-suc-le-zero u), eqb-false y x e), r.2)
 
 -- so of two tracks with one number of fragments
-stands_28 : (s₀ s : List ℕ) (n t p : ℕ) → fragment_count s ≡ fragment_count s₀ → Refusal (rule28 s₀ s) n t p → StandsAt28 s₀ s p
+stands_28 : (s₀ s : List ℕ) (n t p : ℕ) → fragment_count s ≡ fragment_count s₀ → Refuses (rule28 s₀ s) n t p → StandsAt28 s₀ s p
 unfolding rule28 fragment_count
 stands_28 s₀ s n t p c h =
     let w = stands 0 (boundaries s₀) (boundaries s) (first_moofs (fragments s)) n t p (as_many s s₀ c) h in
@@ -133,19 +133,19 @@ stands_28 s₀ s n t p c h =
         ap (λ (i : ℕ). get_elem? (q ∷ qs) i) (sym m) ∙ at_the_last 0 q qs k (omega (arith, m, u)) ∙ ap {B = Option ℕ} some e
 
 -- a track refused beside track 0 differs from it
-differs : (s₀ s : List ℕ) (n t p : ℕ) → Refusal (agrees s₀ s) n t p → Difference s₀ s n p
+differs : (s₀ s : List ℕ) (n t p : ℕ) → Refuses (agrees s₀ s) n t p → Difference s₀ s n p
 unfolding agrees same rule28 must ◌then◌
 differs s₀ s n t p h =
     go (eqb (handler s) (handler s₀)) (eqb (timescale s) (timescale s₀)) (eqb (fragment_count s) (fragment_count s₀)) refl refl refl h
   where
-    other : Refusal (rule28 s₀ s) n t p → boundaries s ≡ boundaries s₀ → ⊥
+    other : Refuses (rule28 s₀ s) n t p → boundaries s ≡ boundaries s₀ → ⊥
     other y e =
-        subst (λ (q : Rule). Refusal q n t p)
+        subst (λ (q : Rule). Refuses q n t p)
         (ap (λ (bs : List ℕ). rule28_from 0 (boundaries s₀) bs (first_moofs (fragments s))) e ∙ itself 0 (boundaries s₀) (first_moofs (fragments s))) y
 
     go : (a b c : Bool) → eqb (handler s) (handler s₀) ≡ a → eqb (timescale s) (timescale s₀) ≡ b
         → eqb (fragment_count s) (fragment_count s₀) ≡ c
-        → Refusal (must a 25 (hdlr_at s) then must b 26 (mdhd_at s) then must c 27 (length s) then rule28 s₀ s) n t p → Difference s₀ s n p
+        → Refuses (must a 25 (hdlr_at s) then must b 26 (mdhd_at s) then must c 27 (length s) then rule28 s₀ s) n t p → Difference s₀ s n p
     go false b c e f g y = of25 (sym y.0) (eqb-false (handler s) (handler s₀) e) (sym y.2)
     go true false c e f g y = of26 (sym y.0) (eqb-false (timescale s) (timescale s₀) f) (sym y.2)
     go true true false e f g y = of27 (sym y.0) (eqb-false (fragment_count s) (fragment_count s₀) g) (sym y.2)
@@ -154,14 +154,14 @@ differs s₀ s n t p h =
         of28 (only_28 0 (boundaries s₀) (boundaries s) (first_moofs (fragments s)) n t p y) c (other y) (stands_28 s₀ s n t p c y)
 
 -- the track that a refusal names is the first one that differs
-named : (s₀ : List ℕ) (j : ℕ) (ss : List (List ℕ)) (n k p : ℕ) → Refusal (agree s₀ j ss) n k p
+named : (s₀ : List ℕ) (j : ℕ) (ss : List (List ℕ)) (n k p : ℕ) → Refuses (agree s₀ j ss) n k p
     → (i : ℕ) × (s : List ℕ) × (k ≡ j + i) × (get_elem? ss i ≡ some s) × Difference s₀ s n p
 unfolding agree of_track ◌then◌
 named s₀ j [] n k p h = absurd h
 named s₀ j (s ∷ ss) n k p h = go (agrees s₀ s) refl h (named s₀ (j + 1) ss n k p)
   where
-    go : (r : Rule) → agrees s₀ s ≡ r → Refusal (of_track j r then agree s₀ (j + 1) ss) n k p
-        → (Refusal (agree s₀ (j + 1) ss) n k p
+    go : (r : Rule) → agrees s₀ s ≡ r → Refuses (of_track j r then agree s₀ (j + 1) ss) n k p
+        → (Refuses (agree s₀ (j + 1) ss) n k p
         → (i : ℕ) × (s : List ℕ) × (k ≡ j + 1 + i) × (get_elem? ss i ≡ some s) × Difference s₀ s n p)
         → (i : ℕ) × (s' : List ℕ) × (k ≡ j + i) × (get_elem? (s ∷ ss) i ≡ some s') × Difference s₀ s' n p
     go (Ok u) e y f = let q = f y in (suc q.0, q.1, omega (arith, q.2), q.3, q.4)

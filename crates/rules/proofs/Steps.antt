@@ -13,7 +13,8 @@ use Rattle.rules.specs.Set.{track0, set_ruling}
 use Rattle.rules.specs.Player.{Stretch, piece_at, stretch_at, clock_after}
 use Rattle.rules.specs.Plans.{All, Plan}
 use Rattle.std.specs.Prelude.{Ok}
-use Rattle.rules.proofs.Laws.{not_on, not_off, all_at, all_map, below, is_below, map_at}
+use Rattle.std.proofs.lemmas.Bool.{not-true, not-false}
+use Rattle.rules.proofs.Laws.{all_at, all_map, below, is_below, map_at}
 use Rattle.rules.proofs.Walk.{DataBox}
 use Rattle.rules.proofs.Fragments.{chunks_of, chunks_in, last_of, last_chunk, all_chunks, others_non_sync, of_each}
 use Rattle.rules.proofs.Boundaries.{Spans, TilesFrom, Tiled, boxed_data, tiled, boundaries_length}
@@ -78,7 +79,7 @@ fragment_at s r j f e =
     spanned a b y =
         let end = end_at s (header_of s) f.first in
         let c = over s end f.others b (went_in_turn (some end) s f.others y.4) y.1 in
-        ((sym y.0, c.0), not_on (non_sync s f.first) (sym (sync_is s f.first) ∙ y.2), (samples_whole s f.first y.3, c.1))
+        ((sym y.0, c.0), not-true (non_sync s f.first) (sym (sync_is s f.first) ∙ y.2), (samples_whole s f.first y.3, c.1))
 
     go : (bs : List ℕ) → suc j < length bs → Tiled fs bs → RunsOver s j f bs
     go [] l t = absurd (not-suc-le-zero l)
@@ -149,7 +150,7 @@ module _ (ss : List (List ℕ)) (plan : List ℕ) (h : set_ruling ss ≡ Ok tt) 
     unfolding fragments
     continues_non_sync =
         all_map (λ x. sync_at s (header_of s) x ≡ false) (λ x. non_sync s x ≡ true) f.others
-        (λ x e. not_off (non_sync s x) (sym (sync_is s x) ∙ e))
+        (λ x e. not-false (non_sync s x) (sym (sync_is s x) ∙ e))
         (all_at (λ y. All (λ x. sync_at s (header_of s) x ≡ false) y.others) (fragments s) j f
         (others_non_sync (sync_at s (header_of s)) (chunks s)) t.3)
 

@@ -15,7 +15,9 @@ use Rattle.rules.specs.Player.{Piece, Stretch, Stream, State, fed_at, piece_at, 
 use Rattle.rules.specs.Player.{ends_at, goes, after, take?, step_on, stuck, tick, play_from, first_start, play_streams, play}
 use Rattle.rules.specs.Rules.{Rule, breaks}
 use Rattle.std.specs.Prelude.{Ok, Err}
-use Rattle.rules.proofs.Laws.{not_on, no_and, and_first, and_second, and_both, all_on, each_on, beyond, map_at, map_none}
+use Rattle.std.proofs.Math.Bool.{and-false}
+use Rattle.std.proofs.lemmas.Bool.{not-true, and_parts, and_from}
+use Rattle.rules.proofs.Laws.{all_on, each_on, beyond, map_at, map_none}
 use Rattle.rules.proofs.Fragments.{chunks_of, last_of, last_chunk}
 use Rattle.rules.proofs.Samples.{EachOf, SomeOf, whole_sample, not_next, past_till, mdat_end, chunk_fed, samples_whole, unfed}
 
@@ -45,7 +47,7 @@ pieces_of s xs = map (piece_at s (header_of s)) xs
 never_in_turn : (o : Option ℕ) (ps qs : List Piece) → ((c : Option ℕ) → in_turn c qs ≡ false) → in_turn o (ps ++ qs) ≡ false
 unfolding in_turn
 never_in_turn o [] qs h = h o
-never_in_turn o (p ∷ ps) qs h = simp (never_in_turn (some p.to) ps qs h, no_and)
+never_in_turn o (p ∷ ps) qs h = simp (never_in_turn (some p.to) ps qs h, and-false)
 
 -- the same of a fragment of which they are the last chunks
 never_through : (o : Option ℕ) (s : List ℕ) (f : Fragment) (ys zs : List ℕ) → chunks_of f ≡ ys ++ zs
@@ -94,7 +96,7 @@ stuck_broken_rule g s n t p h = refuses g s (λ f _. rw h)
 -- another timescale: where a set timescale differs from the track's the step is stuck
 pub stuck_other_timescale : (g : State) (s : List ℕ) (m : ℕ) → g.scale ≡ some m → (m ≡ timescale s → ⊥) → step_on g (stream_of s) ≡ none
 unfolding goes stream_of
-stuck_other_timescale g s m e h = refuses g s (λ f _. simp (unfit g.scale m (timescale s) e h, no_and))
+stuck_other_timescale g s m e h = refuses g s (λ f _. simp (unfit g.scale m (timescale s) e h, and-false))
 
 -- the bit 0x10000, non-sync, in the flags of the first sample of the chunk at x: that of its first run that has a sample
 abbrev pub non_sync : List ℕ → ℕ → Bool
@@ -108,13 +110,13 @@ sync_is s x = refl
 -- a fragment whose first sample is non-sync: the step is stuck
 pub stuck_non_sync : (g : State) (s : List ℕ) (f : Fragment) → Meets g s f → non_sync s f.first ≡ true → step_on g (stream_of s) ≡ none
 unfolding goes stream_of stretch_at
-stuck_non_sync g s f e h = refuses_at g s f e (simp (sync_is s f.first ∙ ap not h, no_and))
+stuck_non_sync g s f e h = refuses_at g s f e (simp (sync_is s f.first ∙ ap not h, and-false))
 
 -- chunks that don't go in turn
 stuck_in_turn : (g : State) (s : List ℕ) (f : Fragment) → Meets g s f → in_turn g.clock (pieces_of s (chunks_of f)) ≡ false
     → step_on g (stream_of s) ≡ none
 unfolding goes stream_of stretch_at
-stuck_in_turn g s f e h = refuses_at g s f e (simp (h, no_and))
+stuck_in_turn g s f e h = refuses_at g s f e (simp (h, and-false))
 
 -- the clock: where the set clock differs from the first chunk's `tfdt` the step is stuck
 pub stuck_clock : (g : State) (s : List ℕ) (f : Fragment) (c : ℕ) → Meets g s f → g.clock ≡ some c → (c ≡ start_at s f.first → ⊥)
@@ -128,13 +130,13 @@ pub stuck_clock_inside : (g : State) (s : List ℕ) (f : Fragment) (y z : ℕ) (
 unfolding in_turn piece_at fits
 stuck_clock_inside g s f y z ys zs e k h =
     stuck_in_turn g s f e
-    (never_through g.clock s f ys (y ∷ z ∷ zs) k (λ c. simp (ne_eqb (end_at s (header_of s) y) (start_at s z) h, no_and)))
+    (never_through g.clock s f ys (y ∷ z ∷ zs) k (λ c. simp (ne_eqb (end_at s (header_of s) y) (start_at s z) h, and-false)))
 
 -- a chunk that doesn't feed the player
 stuck_unfed : (g : State) (s : List ℕ) (f : Fragment) (x : ℕ) (ys zs : List ℕ) → Meets g s f → chunks_of f ≡ ys ++ (x ∷ zs)
     → fed_at s (header_of s) x ≡ false → step_on g (stream_of s) ≡ none
 unfolding in_turn piece_at
-stuck_unfed g s f x ys zs e k h = stuck_in_turn g s f e (never_through g.clock s f ys (x ∷ zs) k (λ c. simp (h, no_and)))
+stuck_unfed g s f x ys zs e k h = stuck_in_turn g s f e (never_through g.clock s f ys (x ∷ zs) k (λ c. simp (h, and-false)))
 
 -- a sample of any of the chunks that isn't the next bytes: the step is stuck
 pub stuck_sample_not_next : (g : State) (s : List ℕ) (f : Fragment) (x : ℕ) (ys zs : List ℕ) → Meets g s f → chunks_of f ≡ ys ++ (x ∷ zs)
@@ -182,7 +184,7 @@ turn_goes o s (x ∷ xs) r =
     let timed = fits o (start_at s x) in
     let filled = fed_at s (header_of s) x in
     let on = in_turn (some (end_at s (header_of s) x)) (pieces_of s xs) in
-    and_both (timed && filled) on (and_both timed filled (unset_fits o (start_at s x) r.0) (chunk_fed s x r.1))
+    and_from (timed && filled) on (and_from timed filled (unset_fits o (start_at s x) r.0) (chunk_fed s x r.1))
     (turn_goes (some (end_at s (header_of s) x)) s xs r.2)
 
 pub went_in_turn : (o : Option ℕ) (s xs : List ℕ) → in_turn o (pieces_of s xs) ≡ true → InTurn o s xs
@@ -192,10 +194,10 @@ went_in_turn o s (x ∷ xs) h =
     let timed = fits o (start_at s x) in
     let filled = fed_at s (header_of s) x in
     let on = in_turn (some (end_at s (header_of s) x)) (pieces_of s xs) in
-    let here = and_first (timed && filled) on h in (
-      fits_unset o (start_at s x) (and_first timed filled here),
-      samples_whole s x (and_second timed filled here),
-      went_in_turn (some (end_at s (header_of s) x)) s xs (and_second (timed && filled) on h),
+    let here = (and_parts (timed && filled) on h).0 in (
+      fits_unset o (start_at s x) (and_parts timed filled here).0,
+      samples_whole s x (and_parts timed filled here).1,
+      went_in_turn (some (end_at s (header_of s) x)) s xs (and_parts (timed && filled) on h).1,
     )
 
 -- what a step asks of a fragment of a track: all that the reasons above deny
@@ -310,7 +312,7 @@ went_through g s p h = go (get_elem? (fragments s) g.number) refl
             e,
             kept (rules_before_timing s) q.0,
             fits_unset g.scale (timescale s) q.1,
-            not_on (non_sync s f.first) (sym (sync_is s f.first) ∙ q.2),
+            not-true (non_sync s f.first) (sym (sync_is s f.first) ∙ q.2),
             went_in_turn g.clock s (chunks_of f) q.3,
           ),
         )

@@ -20,7 +20,7 @@ use Rattle.rules.specs.Player.{run_start, fed_at}
 use Rattle.std.specs.Prelude.{Ok}
 use Rattle.rules.specs.declared.Defaults.{Defaults}
 use Rattle.rules.specs.declared.Header.{Header}
-use Rattle.rules.proofs.Laws.{not_on}
+use Rattle.std.proofs.lemmas.Bool.{not-true}
 use Rattle.rules.proofs.Then.{then_first, then_second, must_holds}
 use Rattle.rules.proofs.Walk.{DataBox}
 use Rattle.rules.proofs.Samples.{place_is, EverySample, whole_sample, every_fed}
@@ -44,7 +44,7 @@ run_start_lem x m first e before r p b = go (has (box_flags m r) 0x1) p
     go : (t : Bool) → when t (is_place (signed (field m r 8)) e) (not first) ≡ true
         → when t (pos x +ℤ signed (field m r 8)) before ≡ pos (x + e)
     go true q = ap (λ (z : ℤ). pos x +ℤ z) (place_is (signed (field m r 8)) e q)
-    go false q = b (not_on first q)
+    go false q = b (not-true first q)
 
 -- runs that rule 22 places, whose sizes end inside the data box: every sample is whole
 tiled_samples : (x : ℕ) (m : List ℕ) (d : Defaults) (first : Bool) (e : ℕ) (before : ℤ) (next till : ℕ) (rs : List ℕ)

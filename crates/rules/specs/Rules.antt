@@ -39,9 +39,9 @@ unfoldable pub must : Bool → ℕ → ℕ → Rule
 must true n p = Ok tt
 must false n p = breaks n 0 p
 
--- a track's rule as track k of a set
-unfoldable pub of_track : ℕ → Rule → Rule
-of_track k (Ok u) = Ok tt
+-- a track's rule, or what its rules come to, as track k of a set
+unfoldable pub of_track : {A : Type 0} → ℕ → Result A Refusal → Result A Refusal
+of_track k (Ok x) = Ok x
 of_track k (Err e) = breaks e.number k e.place
 
 -- a rule over the bytes of a box, moved to where the box stands

@@ -18,6 +18,7 @@ pub enum Path {
 }
 
 // What stands at a place of a slice: nothing, a broken header, or a box.
+// An enum of its own: a Result of an Option with an error enum has the same five cases (`Boxes.on_look`) one level deeper, no plainer to take apart.
 #[derive(Clone, Copy)]
 pub enum Look {
     Nothing,
@@ -36,6 +37,7 @@ pub struct Spot {
 }
 
 // Where a run of boxes is broken: the number of the rule and the place.
+// The number is no enum: `pieces::state::phase_of` makes one of whatever number the lent memory holds, and `FinishesFrom` says the answer of each.
 #[derive(Clone, Copy)]
 pub struct Misframed {
     pub number: u64,
@@ -46,6 +48,7 @@ pub struct Misframed {
 pub type Framing = Result<usize, Misframed>;
 
 // The boxes of a kind in a run: none, one with its place, or more with the first two places.
+// An enum of its own: three outcomes, each with its own places, which `Counts.on_seen` tells apart; an Option in an Option is no plainer.
 #[derive(Clone, Copy)]
 pub enum Seen {
     Never,
@@ -74,6 +77,7 @@ pub enum Stage {
 }
 
 // What stands at a place of a bundle: nothing, no good record, or a record with its track's length.
+// An enum of its own: as a Result of an Option its callers in set would take two layers apart for the one case they want, no plainer.
 #[derive(Clone, Copy)]
 pub enum Mark {
     Nothing,
@@ -83,6 +87,7 @@ pub enum Mark {
 
 // A rule that breaks: its number, its track and its place. The number is one of the paper's table, or whatever the memory of the form that takes pieces
 // holds: that is lent, and its caller may have written any number there.
+// No enum: `pieces::state::judged_from` makes a refusal of any of the 2^64 numbers, and `FinishesFrom` says the answer over any memory.
 #[derive(Clone, Copy)]
 pub struct Refusal {
     pub number: u64,
@@ -187,7 +192,8 @@ impl Refusal {
     }
 }
 
-// A test that must hold, with the number and the place of its refusal.
+// A test that must hold, with the number and the place of its refusal. Its callers write the number as the paper's table has it: a name for each is no plainer.
+#[tactic(auto, unfolding(crate::specs::Rules::must))]
 pub fn must(ok: bool, number: u64, place: u64) -> Rule
     ensures { result ≡ must ok number place }
 {
@@ -202,15 +208,12 @@ pub fn must(ok: bool, number: u64, place: u64) -> Rule
     }
 }
 
-// A track's rule as track k of a set.
+// A track's rule, or what its rules come to, as track k of a set.
 #[tactic(auto, unfolding(crate::specs::Rules::of_track))]
-pub fn of_track(k: u64, rule: Rule) -> Rule
-    ensures { result ≡ of_track k rule }
+pub fn of_track<T>(k: u64, judged: Result<T, Refusal>) -> Result<T, Refusal>
+    ensures { result ≡ of_track k judged }
 {
-    match rule {
-        Ok(()) => Ok(()),
-        Err(e) => Err(Refusal { track: k, ..e }),
-    }
+    judged.map_err(|e| Refusal { track: k, ..e })
 }
 
 // A broken framing, as the refusal of a track.

@@ -1,5 +1,5 @@
 -- Laws of rule 15: what a body's form comes to, and that of a run.
-use Rattle.std.proofs.Common.{◌≡◌, ℕ, ◌+◌, ◌-◌, ◌*◌, ◌<◌, ◌≤◌, inl, inr, ◌⊎◌, true, false, Some, None, List, refl, arith}
+use Rattle.std.proofs.Common.{◌≡◌, ℕ, ◌+◌, ◌-◌, ◌*◌, ◌<◌, ◌≤◌, true, false, Some, None, List, refl, arith}
 use Rattle.rules.specs.Fields.{Form, box_flags, field, either, has_form, body}
 use Rattle.rules.specs.Chunk.{run_head, stride, count_of, run_size, run_form}
 use Rattle.rules.specs.Rules.{breaks}
@@ -7,9 +7,6 @@ use Rattle.std.specs.Prelude.{None, Some, Ok}
 use Rattle.rules.specs.declared.Spot.{Spot}
 use Rattle.rules.proofs.Then.{must_true, must_false}
 use Rattle.boxes.specs.Stands.{Stands}
-use Rattle.fields.specs.Versions.{SaysVersion}
-use Rattle.fields.specs.declared.Version.{Version}
-use Rattle.fields.specs.declared.Version.TheVariants.{Zero, One}
 use Rattle.fields.proofs.Forms.{is_neither}
 use Rattle.runs.specs.Trun.{SaysTrun}
 

@@ -3,18 +3,18 @@ use Rattle.std.proofs.Common.{◌≡◌, ℕ, ◌+◌, ◌≤◌, Bool, true, fa
 use borrow.Author.Tests.{eqb-false}
 use Rattle.numbers.specs.Numbers.{when}
 use Rattle.rules.specs.Kinds.{trun}
-use Rattle.rules.specs.Boxes.{look, boxes, places_of}
+use Rattle.rules.specs.Boxes.{boxes}
 use Rattle.rules.specs.Rules.{◌then◌, must, PlacedUpTo, Rule, breaks}
 use Rattle.rules.specs.Fields.{box_flags, body}
 use Rattle.rules.specs.Chunk.{count_of, run_form, rule15runs, not_both, rule16runs, samples_of, run_bytes, durations_of, bytes_in, first_flags_of, first_flags, is_sync, rule22runs}
-use Rattle.rules.specs.declared.Look.{Look}
-use Rattle.rules.specs.declared.Look.TheVariants.{Good}
 use Rattle.std.specs.Prelude.{Ok}
 use Rattle.rules.specs.declared.Defaults.{Defaults}
-use Rattle.rules.proofs.Forest.{places_hit, places_miss, places_end}
+use Rattle.rules.proofs.Forest.{places_end}
 use Rattle.rules.proofs.Then.{then_holds, then_breaks, then_assoc, then_first}
 use Rattle.rules.proofs.Untracked.{then_is, must_is}
-use Rattle.boxes.proofs.Walks.{over, told_header}
+use Rattle.boxes.specs.Siblings.{FirstOf}
+use Rattle.boxes.specs.declared.Sibling.{Sibling}
+use Rattle.boxes.proofs.Walks.{first_hit, first_miss}
 use Rattle.runs.specs.Runs.{runs_at, Due, AndSamples, SpansAll, PassedRuns, Walked}
 use Rattle.runs.specs.declared.Span.{Span}
 use Rattle.runs.specs.declared.Totals.{Totals}
@@ -100,21 +100,20 @@ module _ (m : List ℕ) (want : Bool) (d : Defaults) (from : ℕ) (all : List �
     pub walked_in : Walked m want d from all rest (record { clash = clash; samples = t.samples + n; span = b })
     walked_in = record { passed = passed_on b; sums = λ e. spans_on }
 
--- the runs from a place on, by what stands there
-module _ (s : List ℕ) (at : ℕ) {l : Look} (e : l ≡ look s at) where
-  pub runs_over : ((h z k : ℕ) → l ≡ Good h z k → ⊥) → runs_at s at ≡ []
+-- the runs from a place on, by the boxes from there on
+module _ (s : List ℕ) (at : ℕ) where
+  pub runs_over : boxes s at ≡ [] → runs_at s at ≡ []
   unfolding runs_at
-  runs_over o = places_end s at trun (over s at l e o)
+  runs_over o = places_end s at trun o
 
-  module _ {h z k : ℕ} (t : l ≡ Good h z k) where
-    pub runs_next : k ≡ trun → runs_at s at ≡ at ∷ runs_at s (at + z)
+  module _ {q : ℕ} {b : Sibling} (f : FirstOf s at q b) where
+    pub runs_next : b.kind ≡ trun → runs_at s at ≡ b.spot.at ∷ runs_at s q
     unfolding runs_at
-    runs_next q =
-        subst (λ (w : ℕ). places_of w (boxes s at) ≡ at ∷ places_of w (boxes s (at + z))) q (places_hit s at h z k (told_header s at e t))
+    runs_next e = first_hit f e
 
-    pub runs_same : (k ≡ trun → ⊥) → runs_at s at ≡ runs_at s (at + z)
+    pub runs_same : (b.kind ≡ trun → ⊥) → runs_at s at ≡ runs_at s q
     unfolding runs_at
-    runs_same n = places_miss s at trun h z k (told_header s at e t) (ne_eqb k trun n)
+    runs_same n = first_miss f n
 
 -- all runs passed, a box passed that is no run, and a run that has another form
 module _ (m : List ℕ) (want : Bool) (d : Defaults) (from : ℕ) (all left : List ℕ) (t : Totals) (w : Walked m want d from all left t) where

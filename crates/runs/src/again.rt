@@ -1,4 +1,5 @@
-// A second look at runs, whatever they hold: whether the first sample of all is a sync sample.
+// A second look at runs, whatever they hold: whether the first sample of all is a sync sample. Its readers stay beside those of the first look, no plainer as
+// one: the first look's ask that the bytes are there and read without a test.
 ghost use Rattle.std.specs.Prelude.{◌≡◌, ◌≤◌, length, take};
 ghost use Rattle.rules.specs.Limits.{byte_limit};
 ghost use Rattle.rules.specs.Chunk.{first_flags, is_sync};
@@ -8,22 +9,18 @@ use crate::is_sync;
 use crate::trun::Trun;
 use boxes::kinds::TRUN;
 use numbers::{BigEndian, U24};
-use rules::{Defaults, Look, Spot};
+use rules::Defaults;
 
 // Whether the first sample of the runs from a start on in a front of the `moof` is a sync sample: that of the first run that has one.
 pub fn first_sync(m: &[u8], s: &[u8], start: usize, d: Defaults) -> bool
     requires { (length m.now ≤ byte_limit) × (s.now ≡ take (length s.now) m.now) }
     ensures { result ≡ is_sync (first_flags m.now d (runs_at s.now start)) }
 {
-    let mut at = start;
-    loop {
-        let Look::Good { head, size, kind } = boxes::look(s, at) else {
-            return true;
-        };
-        if kind == TRUN {
-            let body = at + head;
+    for b in boxes::along(s, start) {
+        if b.kind == TRUN {
+            let body = b.spot.at + b.spot.head;
             let run = Trun {
-                spot: Spot { at, head, size },
+                spot: b.spot,
                 flags: U24::read(m, body + 1).value,
                 count: u32::read(m, body + 4),
             };
@@ -31,6 +28,6 @@ pub fn first_sync(m: &[u8], s: &[u8], start: usize, d: Defaults) -> bool
                 return is_sync(run.first_flags(m, d));
             }
         }
-        at += size;
     }
+    true
 }

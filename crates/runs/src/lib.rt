@@ -1,5 +1,7 @@
 // The runs of a chunk in one walk: rules 15 and 16 of them, their samples in all, and, while they are asked for, what the samples
 // come to, for rules 20 to 22.
+// The limit, `Stands` and `FilledRun` stand in each contract beside the bytes. One struct with them is no plainer: every clause would read `m.entry.bytes.now`,
+// and every call of `fields` would take it apart again. `FilledRun` is no ghost field of `Trun` either: `again::first_sync` builds one of any bytes.
 #![tactic(auto)]
 
 ghost use Rattle.std.specs.Prelude.{◌≡◌, ◌+◌, ◌*◌, ◌≤◌, length, take};
@@ -11,7 +13,7 @@ ghost use Rattle.runs.specs.Trun.{FilledRun};
 ghost use Rattle.runs.specs.Runs.{runs_at, SaysDue, SmallSums, Low, sync_after, AndSamples, SaysNext, SaysRuns};
 
 use boxes::kinds::TRUN;
-use rules::{Defaults, Look, Refusal, Rule, Spot};
+use rules::{Defaults, Refusal, Rule, Spot};
 use trun::Trun;
 
 pub mod again;
@@ -67,13 +69,7 @@ fn not_both(flags: u32) -> bool
 fn due(want: bool, clash: Rule, samples: u64) -> bool
     ensures { SaysDue result want clash samples }
 {
-    if !want {
-        return false;
-    }
-    match clash {
-        Ok(()) => samples <= SAMPLE_LIMIT,
-        Err(_) => false,
-    }
+    want && clash.is_ok() && samples <= SAMPLE_LIMIT
 }
 
 // Rule 21: not the non-sync bit.
@@ -151,7 +147,6 @@ pub fn walk(
     requires s_value { s.now ≡ take (length s.now) m.now }
     ensures { SaysRuns result m.now want d from (runs_at s.now start) }
 {
-    let mut at = start;
     let mut t = Totals {
         clash: Ok(()),
         samples: 0,
@@ -163,13 +158,10 @@ pub fn walk(
             tiled: Ok(()),
         },
     };
-    loop {
-        let Look::Good { head, size, kind } = boxes::look(s, at) else {
-            return Ok(t);
-        };
-        if kind == TRUN {
-            t = and_run(m, Spot { at, head, size }, want, d, from, t)?;
+    for b in boxes::along(s, start) {
+        if b.kind == TRUN {
+            t = and_run(m, b.spot, want, d, from, t)?;
         }
-        at += size;
     }
+    Ok(t)
 }

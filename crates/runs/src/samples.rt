@@ -1,6 +1,7 @@
 // The samples of a run: their durations and sizes in all. From 8 rows on no number is turned around by itself: the first eight bytes of the rows are added up
 // as they stand, the second, fourth, sixth and eighth of them also by themselves, in 16 bits each, and what the bytes of each place come to is put in order
 // once for up to 256 rows. A column of numbers that stand side by side is taken as two.
+// `FewRows` stands in four contracts: no plainer in a struct of rows and step, which would be made for one call, and two of the four have the step as `STEP`.
 ghost use Rattle.std.specs.Prelude.{◌≡◌, ◌+◌, ◌*◌, ◌/◌, ◌%◌, ◌≤◌, length};
 ghost use Rattle.rules.specs.Limits.{sample_limit};
 ghost use Rattle.rules.specs.Chunk.{duration_of, bytes_of};
@@ -24,6 +25,7 @@ pub struct Sums {
 const BLOCK: usize = 256;
 
 // The eight bytes at a place, the first the lowest: one load.
+#[tactic(auto, unfolding(crate::specs::Rows::every_other))]
 fn row(rows: &[u8], p: usize) -> u64
     requires { p + 8 ≤ length rows.now }
     ensures { result ≡ every_other rows.now p + every_other rows.now (p + 1) * 256 }
@@ -41,6 +43,7 @@ fn row(rows: &[u8], p: usize) -> u64
 }
 
 // Every other byte of a number, from the lowest on, where it stands.
+#[tactic(auto, unfolding(crate::specs::Rows::lanes))]
 fn lanes(x: u64) -> u64
     ensures { result ≡ lanes x }
 {
@@ -51,6 +54,7 @@ fn lanes(x: u64) -> u64
 }
 
 // Four-byte numbers in all, by what their first and third bytes come to, and their second and fourth, in 16 bits each.
+#[tactic(auto, unfolding(crate::specs::Rows::from_columns))]
 fn from_columns(even: u64, odd: u64) -> u64
     ensures { result ≡ from_columns even odd }
 {
@@ -141,6 +145,7 @@ fn sum_column(rows: &[u8], step: usize) -> u64
 }
 
 // A value that n samples share, n times.
+#[tactic(auto, using(std::proofs::Common::arith, crate::proofs::Sums::summed_const))]
 fn times(n: u32, x: u32) -> u64
     requires { n ≤ sample_limit }
     ensures { Summed (λ i. x) n result }

@@ -1,4 +1,5 @@
 // Rule 15: the body of a run; and what it says of the first sample and of where the bytes begin.
+// `Stands` and `FilledRun` stand in each contract, as lib.rt says.
 ghost use Rattle.std.specs.Prelude.{◌≡◌, ◌+◌, ◌≤◌, length};
 ghost use Rattle.rules.specs.Limits.{byte_limit};
 ghost use Rattle.rules.specs.Fields.{box_flags};
@@ -22,6 +23,7 @@ pub struct Trun {
 impl Trun {
     // The flags of the first sample, wherever they stand. Inline in both callers: a call in the walk takes 7 % more instructions a run.
     #[inline(always)]
+    #[tactic(auto, unfolding(rules::specs::Chunk::first_flags_of, rules::specs::Fields::field, rules::specs::Chunk::sample_at))]
     pub fn first_flags(self, m: &[u8], d: Defaults) -> u32
         requires { Stands m.now self.spot × (self.flags ≡ box_flags m.now self.spot.at) × (length m.now ≤ byte_limit) }
         ensures { result ≡ first_flags_of m.now d self.spot.at }

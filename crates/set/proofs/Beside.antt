@@ -13,6 +13,7 @@ use Rattle.rules.specs.Course.{facts_of}
 use Rattle.rules.specs.declared.Header.{Header}
 use Rattle.std.specs.Prelude.{Option, None, Some, Ok, Err}
 use Rattle.std.specs.Option.{option_eq}
+use Rattle.std.proofs.lemmas.List.{nil_from_length}
 use Rattle.rules.specs.declared.Refusal.{Refusal}
 use Rattle.rules.specs.declared.TrackFacts.{TrackFacts}
 use Rattle.rules.proofs.Sound.{accepted_keeps}
@@ -20,9 +21,9 @@ use Rattle.rules.proofs.Walk.{some_chunk}
 use Rattle.rules.proofs.Then.{then_holds, then_breaks, then_last, must_holds}
 use Rattle.track.specs.Course.{Known}
 use Rattle.track.specs.Cursor.{begun_from, NextAt, IsNextFragment}
-use Rattle.track.specs.declared.cursor.Fragment.{Fragment}
+use Rattle.track.specs.declared.cursor.FragmentAt.{FragmentAt}
 use Rattle.track.specs.declared.cursor.Fragments.{Fragments}
-use Rattle.track.proofs.Table.{Over, Gives, over_first, over_on, next_over, moofs_length, written, known_count, known_end, known_begun, known_written}
+use Rattle.track.proofs.Table.{WalksOver, NextGives, over_first, over_on, next_over, moofs_length, written, known_count, known_end, known_begun, known_written}
 
 -- an end that is set
 abbrev IsSet : Option ℕ → Type 0
@@ -84,11 +85,6 @@ beside_begins s₀ s {f₀} {f} k₀ k n =
       set = known_set s f k;
     }
 
--- no places are left
-empty : (xs : List ℕ) → length xs ≡ 0 → xs ≡ []
-empty [] e = refl
-empty (x ∷ xs) e = absurd (omega arith)
-
 module _ (s₀ : List ℕ) {f₀ : TrackFacts} (s : List ℕ) {f : TrackFacts} {at₀ at last : ℕ} (g : BesideGoing s₀ f₀ s f at₀ at last) where
   -- the last boundary
   pub beside_ends : begun_of s₀ f₀ at₀ ≡ [] → rule28 s₀ s ≡ must (option_eq eqb f.end f₀.end) 28 last
@@ -96,12 +92,12 @@ module _ (s₀ : List ℕ) {f₀ : TrackFacts} (s : List ℕ) {f : TrackFacts} {
   beside_ends e =
       g.rule
       ∙ ap₂ (λ (x y : List ℕ). rule28_from last (written s₀ f₀.end x) (written s f.end y) y) e
-      (empty (begun_of s f at) (omega (arith, g.same, ap length e)))
+      (nil_from_length (begun_of s f at) (omega (arith, g.same, ap length e)))
       ∙ ends f₀.end f.end last g.set₀ g.set
 
   -- where the track has no fragment more, track 0 has none
   pub beside_short : begun_of s f at ≡ [] → begun_of s₀ f₀ at₀ ≡ []
-  beside_short e = empty (begun_of s₀ f₀ at₀) (omega (arith, g.same, ap length e))
+  beside_short e = nil_from_length (begun_of s₀ f₀ at₀) (omega (arith, g.same, ap length e))
 
   module _ {p₀ q₀ v₀ p q v : ℕ} (c₀ : NextAt s₀ f₀.header at₀ p₀ q₀ v₀) (c : NextAt s f.header at p q v) where
     -- one boundary of both
@@ -129,8 +125,8 @@ module _ (s₀ : List ℕ) {f₀ : TrackFacts} (s : List ℕ) {f : TrackFacts} {
 
 -- the same, by the fragments that are left of both
 pub record BesideBy (s₀ : List ℕ) (f₀ : TrackFacts) (s : List ℕ) (f : TrackFacts) (fs₀ fs : Fragments) (last : ℕ) : Type 0 where
-  pub over₀ : Over s₀ f₀ fs₀
-  pub over : Over s f fs
+  pub over₀ : WalksOver s₀ f₀ fs₀
+  pub over : WalksOver s f fs
   pub going : BesideGoing s₀ f₀ s f fs₀.at fs.at last
 
 pub beside_by_begins : {s₀ s : List ℕ} {f₀ f : TrackFacts} → Known s₀ f₀ → Known s f → fragment_count s ≡ fragment_count s₀
@@ -148,7 +144,7 @@ beside_by_begins {s₀} {s} {f₀} {f} k₀ k n e₀ e b₀ b =
 
 module _ {s₀ s : List ℕ} {f₀ f : TrackFacts} {fs₀ fs : Fragments} {last : ℕ} (w : BesideBy s₀ f₀ s f fs₀ fs last) where
   -- a boundary of both that is the same
-  pub beside_by_on : {x₀ x : Fragment} {gs₀ gs : Fragments} → Gives fs₀ x₀ gs₀ → Gives fs x gs → {r : Rule} → r ≡ must (eqb x.start x₀.start) 28 x.place
+  pub beside_by_on : {x₀ x : FragmentAt} {gs₀ gs : Fragments} → NextGives fs₀ x₀ gs₀ → NextGives fs x gs → {r : Rule} → r ≡ must (eqb x.start x₀.start) 28 x.place
       → r ≡ Ok tt → BesideBy s₀ f₀ s f gs₀ gs x.place
   beside_by_on n₀ n m i =
       record {
@@ -158,7 +154,7 @@ module _ {s₀ s : List ℕ} {f₀ f : TrackFacts} {fs₀ fs : Fragments} {last 
       }
 
   -- one that differs
-  pub beside_by_breaks : {x₀ x : Fragment} → IsNextFragment (Some x₀) fs₀.bytes.now fs₀.header fs₀.at → IsNextFragment (Some x) fs.bytes.now fs.header fs.at
+  pub beside_by_breaks : {x₀ x : FragmentAt} → IsNextFragment (Some x₀) fs₀.bytes.now fs₀.header fs₀.at → IsNextFragment (Some x) fs.bytes.now fs.header fs.at
       → {r : Rule} → r ≡ must (eqb x.start x₀.start) 28 x.place → {e : Refusal} → r ≡ Err e → Err e ≡ rule28 s₀ s
   beside_by_breaks n₀ n m i = beside_breaks s₀ s w.going (next_over w.over₀ n₀) (next_over w.over n) m i
 

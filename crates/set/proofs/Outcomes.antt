@@ -4,19 +4,32 @@ use mathlib.Core.List.{List, ◌∷◌}
 use Prim.Native.Nat.{ℕ, ◌+◌, ◌-◌, ◌≤◌, ◌<◌}
 use native.Mathlib.Omega.{arith}
 use lib.ListN.{length, take, drop}
-use borrow.Author.Tests.{le-leb, lt-leb}
+use lib.Dec.{leb}
+use borrow.Author.Tests.{le-leb, lt-leb, leb-true}
 use Rattle.rules.specs.Limits.{byte_limit}
-use Rattle.rules.specs.Rules.{◌then◌, of_track, Rule, breaks}
+use Rattle.rules.specs.Rules.{◌then◌, must, of_track, Rule, breaks}
 use Rattle.rules.specs.Bundle.{record_at, rule24, tracks, records}
 use Rattle.rules.specs.Track.{rule1, ruling, room_of, refused}
 use Rattle.rules.specs.Set.{track0, rulings, agree, set_ruling, bundle_ruling, set_outcome}
-use Rattle.rules.proofs.Then.{then_holds, then_breaks, then_assoc, must_true, must_false}
+use Rattle.rules.proofs.Then.{then_holds, then_breaks, then_assoc, must_true, must_false, must_holds}
 use Rattle.rules.specs.declared.Mark.{Mark}
 use Rattle.rules.specs.declared.Mark.TheVariants.{Track}
 use Rattle.rules.specs.declared.Refusal.{Refusal}
-use Rattle.std.specs.Prelude.{Ok, Err}
+use Rattle.std.specs.Prelude.{Result, Ok, Err, IfOk, IfErr}
 use Rattle.set.specs.Says.{rest_of, all_of}
 use Rattle.set.proofs.Following.{rest_part, rest_none}
+
+-- an answer as that of track k of a set: what it says of an acceptance stays, and a refusal is moved
+module _ {A : Type 0} (k : ℕ) where
+  pub of_track_accepts : (P : A → Type 0) (q r : Result A Refusal) → q ≡ of_track k r → IfOk r P → IfOk q P
+  unfolding of_track
+  of_track_accepts P q (Ok x) e h = rw e h
+  of_track_accepts P q (Err x) e h = rw e tt
+
+  pub of_track_refuses : (s : Rule) (q r : Result A Refusal) → q ≡ of_track k r → IfErr r (λ x. s ≡ Err x) → IfErr q (λ x. of_track k s ≡ Err x)
+  unfolding of_track
+  of_track_refuses s q (Ok x) e h = rw e tt
+  of_track_refuses s q (Err x) e h = rw e (ap (of_track k) h)
 
 -- the tracks are those from the first record on
 tracks_are : (b : List ℕ) → tracks b ≡ rest_of b 0 0
@@ -36,6 +49,14 @@ module _ (b : List ℕ) where
   pub bundle_over_limit : byte_limit < length b → bundle_ruling b ≡ breaks 1 0 0
   unfolding bundle_ruling rule1
   bundle_over_limit h = then_breaks _ (must_false 1 0 (lt-leb (length b) byte_limit h))
+
+  -- the test of the byte limit fails, and holds
+  pub too_long : {r : Rule} → r ≡ must (leb (length b) byte_limit) 1 0 → {e : Refusal} → r ≡ Err e → bundle_ruling b ≡ Err e
+  unfolding bundle_ruling rule1
+  too_long m i = then_breaks _ (sym m ∙ i)
+
+  pub within_limit : {r : Rule} → r ≡ must (leb (length b) byte_limit) 1 0 → r ≡ Ok tt → length b ≤ byte_limit
+  within_limit m i = leb-true (length b) byte_limit (must_holds _ 1 0 (sym m ∙ i))
 
   module _ (h : length b ≤ byte_limit) where
     short : rule1 (length b) ≡ Ok tt

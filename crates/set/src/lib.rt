@@ -10,7 +10,7 @@ ghost use Rattle.rules.specs.Jobs.{Permits};
 ghost use Rattle.set.specs.Says.{all_of};
 
 use framing::BYTE_LIMIT;
-use rules::{Mark, Refusal, Rule, Verdict};
+use rules::{Mark, Refusal, Rule, Verdict, must};
 use track::accepted::AcceptedTrack;
 
 pub mod agree;
@@ -20,10 +20,7 @@ fn judge_member(s: &[u8], k: u64) -> Result<AcceptedTrack<'_>, Refusal>
     ensures accepts { IfOk result (λ a. a.bytes.now ≡ s.now) }
     ensures refuses { IfErr result (λ e. of_track k (ruling s.now) ≡ Err e) }
 {
-    match AcceptedTrack::judge(s) {
-        Ok(track) => Ok(track),
-        Err(e) => Err(Refusal { track: k, ..e }),
-    }
+    rules::of_track(k, AcceptedTrack::judge(s))
 }
 
 // What was broken before a track, else what it breaks beside track 0.
@@ -58,12 +55,8 @@ fn judge_set(b: &[u8]) -> Result<AcceptedTrack<'_>, Refusal>
     ensures accepts { IfOk result (λ a. (bundle_ruling b.now ≡ Ok tt) × (a.bytes.now ≡ track0 (tracks b.now))) }
     ensures refuses { IfErr result (λ e. bundle_ruling b.now ≡ Err e) }
 {
-    if BYTE_LIMIT < b.len() {
-        return Err(Refusal::new(1, 0, 0));
-    }
-    if let Err(bad) = bundle::frame_records(b) {
-        return Err(Refusal::new(24, bad.track, bad.place));
-    }
+    must(b.len() <= BYTE_LIMIT, 1, 0)?;
+    bundle::frame_records(b)?;
     let Mark::Track(n) = bundle::record_at(b, 0) else {
         return Err(Refusal::new(24, 0, 0));
     };

@@ -28,6 +28,7 @@ struct Lent {
 fn feed_all(stdin: &mut impl Read, lent: &mut Lent) -> io::Result<()> {
     let mut piece = [0u8; READ_ROOM];
     let mut fed = 0;
+    // No `for`, no plainer: a read brings as many bytes as it likes, and nothing is counted.
     while fed <= BYTE_LIMIT {
         let n = stdin.read(&mut piece)?;
         if n == 0 {
@@ -45,7 +46,7 @@ fn feed_all(stdin: &mut impl Read, lent: &mut Lent) -> io::Result<()> {
 }
 
 // Writes a text to standard output: nothing but the lines of what is answered after the lent memory. Says why where it can't, but of a reader
-// that has left nothing.
+// that has left nothing. Not one function with intake's `show`: their `requires` say what each prints, and must-fail edits speak of them.
 fn show_lines(rt: &(impl Print + Eprint), lent: &Lent, text: &[u8])
     requires { text.now ≡ answer_lines (resume (memory lent.now.numbers lent.now.head lent.now.kept) []) }
 {

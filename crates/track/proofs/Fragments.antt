@@ -4,17 +4,16 @@ use mathlib.Core.Bool.{Bool, true, false, ◌&&◌, false≢true}
 use mathlib.Core.List.{List, [], ◌∷◌}
 use Prim.Native.Nat.{ℕ, ◌+◌, ◌≤◌}
 use native.Mathlib.Omega.{arith}
-use borrow.Author.Tests.{ne_eqb}
 use Rattle.rules.specs.Kinds.{moof}
-use Rattle.rules.specs.Boxes.{look, boxes, whole}
+use Rattle.rules.specs.Boxes.{boxes, whole}
 use Rattle.rules.specs.Chunk.{start_of, sync_in}
 use Rattle.rules.specs.Course.{each_sync}
 use Rattle.rules.specs.Track.{chunks_from, start_at, sync_at, begun_among}
 use Rattle.rules.specs.declared.Header.{Header}
-use Rattle.rules.specs.declared.Look.{Look}
-use Rattle.rules.specs.declared.Look.TheVariants.{Good}
-use Rattle.rules.proofs.Forest.{look_found, places_hit, places_miss, places_end}
-use Rattle.boxes.proofs.Walks.{told_header}
+use Rattle.rules.proofs.Forest.{places_end}
+use Rattle.boxes.specs.Siblings.{FirstOf}
+use Rattle.boxes.specs.declared.Sibling.{Sibling}
+use Rattle.boxes.proofs.Walks.{first_hit, first_miss}
 use Rattle.track.specs.Cursor.{begun_from, EachSync, NextAt}
 
 -- what is left from a place on, by the chunks from there on
@@ -33,27 +32,27 @@ module _ (s : List ℕ) (h : Header) where
   sync_same a b e plain g p = ap (each_sync (sync_at s h)) (sym e) ∙ g p
 
   -- a chunk that begins a fragment, and one that does not
-  module _ (p q : ℕ) (e : chunks_from s p ≡ p ∷ chunks_from s q) where
-    begun_here : sync_at s h p ≡ true → begun_from s h p ≡ p ∷ begun_from s h q
+  module _ (a p q : ℕ) (e : chunks_from s a ≡ p ∷ chunks_from s q) where
+    begun_here : sync_at s h p ≡ true → begun_from s h a ≡ p ∷ begun_from s h q
     unfolding begun_from begun_among
     begun_here y = rw (e, y)
 
-    begun_later : sync_at s h p ≡ false → begun_from s h p ≡ begun_from s h q
+    begun_later : sync_at s h p ≡ false → begun_from s h a ≡ begun_from s h q
     unfolding begun_from begun_among
     begun_later n = rw (e, n)
 
-    each : each_sync (sync_at s h) (chunks_from s p) ≡ (sync_at s h p && each_sync (sync_at s h) (chunks_from s q))
+    each : each_sync (sync_at s h) (chunks_from s a) ≡ (sync_at s h p && each_sync (sync_at s h) (chunks_from s q))
     unfolding each_sync
     each = rw e
 
-    sync_here : (plain : Bool) → EachSync plain s h p → plain ≡ true → sync_at s h p ≡ true
+    sync_here : (plain : Bool) → EachSync plain s h a → plain ≡ true → sync_at s h p ≡ true
     sync_here plain g t = by (sync_at s h p) (each_sync (sync_at s h) (chunks_from s q)) (sym each ∙ g t)
       where
         by : (a b : Bool) → (a && b) ≡ true → a ≡ true
         by true b y = refl
         by false b y = y
 
-    sync_later : (plain : Bool) → EachSync plain s h p → EachSync plain s h q
+    sync_later : (plain : Bool) → EachSync plain s h a → EachSync plain s h q
     sync_later plain g t = by (sync_at s h p) (each_sync (sync_at s h) (chunks_from s q)) (sym each ∙ g t)
       where
         by : (a b : Bool) → (a && b) ≡ true → b ≡ true
@@ -75,25 +74,28 @@ module _ {s : List ℕ} {h : Header} {at here : ℕ} (k : Skipped s h at here) w
   unfolding chunks_from
   skipped_all e = k.places ∙ begun_end s h here (places_end s here moof e)
 
-  module _ {n z w : ℕ} {l : Look} (e : l ≡ look s here) (t : l ≡ Good n z w) where
+  module _ {q : ℕ} {b : Sibling} (f : FirstOf s here q b) where
+    goes_on : at ≤ q
+    goes_on = omega (arith, k.from, f.place, f.next)
+
     -- a box of another type
-    pub skipped_box : (w ≡ moof → ⊥) → Skipped s h at (here + z)
+    pub skipped_box : (b.kind ≡ moof → ⊥) → Skipped s h at q
     unfolding chunks_from
     skipped_box d =
-        let same = places_miss s here moof n z w (told_header s here e t) (ne_eqb w moof d) in
+        let same = first_miss f d in
         record {
-          from = omega (arith, k.from);
-          places = k.places ∙ begun_same s h here (here + z) same;
-          sync = λ plain g. sync_same s h here (here + z) same plain (k.sync plain g);
+          from = goes_on;
+          places = k.places ∙ begun_same s h here q same;
+          sync = λ plain g. sync_same s h here q same plain (k.sync plain g);
         }
 
     -- a chunk
-    module _ (y : w ≡ moof) (m : List ℕ) (own : m ≡ whole s here) where
-      chunk_here : chunks_from s here ≡ here ∷ chunks_from s (here + z)
+    module _ (y : b.kind ≡ moof) (m : List ℕ) (own : m ≡ whole s b.spot.at) where
+      chunk_here : chunks_from s here ≡ b.spot.at ∷ chunks_from s q
       unfolding chunks_from
-      chunk_here = rw (← y) (places_hit s here n z w (told_header s here e t))
+      chunk_here = first_hit f y
 
-      sync_is : {b : Bool} → b ≡ sync_in m h.defaults → sync_at s h here ≡ b
+      sync_is : {v : Bool} → v ≡ sync_in m h.defaults → sync_at s h b.spot.at ≡ v
       unfolding sync_at
       sync_is i = sym (i ∙ ap (λ (l : List ℕ). sync_in l h.defaults) own)
 
@@ -101,25 +103,25 @@ module _ {s : List ℕ} {h : Header} {at here : ℕ} (k : Skipped s h at here) w
       pub plain_sync : (plain : Bool) → EachSync plain s h at → plain ≡ true → sync_in m h.defaults ≡ true
       unfolding sync_at
       plain_sync plain g p =
-          ap (λ (l : List ℕ). sync_in l h.defaults) own ∙ sync_here s h here (here + z) chunk_here plain (k.sync plain g) p
+          ap (λ (l : List ℕ). sync_in l h.defaults) own ∙ sync_here s h here b.spot.at q chunk_here plain (k.sync plain g) p
 
-      pub skipped_chunk : {b : Bool} → b ≡ sync_in m h.defaults → b ≡ false → Skipped s h at (here + z)
+      pub skipped_chunk : {v : Bool} → v ≡ sync_in m h.defaults → v ≡ false → Skipped s h at q
       skipped_chunk i n =
           record {
-            from = omega (arith, k.from);
-            places = k.places ∙ begun_later s h here (here + z) chunk_here (sync_is i ∙ n);
-            sync = λ plain g. sync_later s h here (here + z) chunk_here plain (k.sync plain g);
+            from = goes_on;
+            places = k.places ∙ begun_later s h here b.spot.at q chunk_here (sync_is i ∙ n);
+            sync = λ plain g. sync_later s h here b.spot.at q chunk_here plain (k.sync plain g);
           }
 
       -- a chunk that begins a fragment, with its start
-      pub next_at : {b : Bool} {v : ℕ} → b ≡ sync_in m h.defaults → b ≡ true → v ≡ start_of m → NextAt s h at here (here + z) v
+      pub next_at : {v : Bool} {p t : ℕ} → v ≡ sync_in m h.defaults → v ≡ true → t ≡ start_of m → p ≡ b.spot.at + b.spot.size → NextAt s h at b.spot.at p t
       unfolding start_at
-      next_at i o u =
-          let f = look_found s here n z w (told_header s here e t) in
-          record {
-            places = k.places ∙ begun_here s h here (here + z) chunk_here (sync_is i ∙ o);
+      next_at i o u e =
+          rw (e, ← f.next)
+          (record {
+            places = k.places ∙ begun_here s h here b.spot.at q chunk_here (sync_is i ∙ o);
             start = u ∙ ap start_of own;
-            past = omega (arith, k.from, f.low, f.holds);
-            inner = f.fits;
-            sync = λ plain g. sync_later s h here (here + z) chunk_here plain (k.sync plain g);
-          }
+            past = omega (arith, k.from, f.place, f.next, f.stands.low, f.stands.holds);
+            inner = omega (arith, f.next, f.stands.fits);
+            sync = λ plain g. sync_later s h here b.spot.at q chunk_here plain (k.sync plain g);
+          })

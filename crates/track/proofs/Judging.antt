@@ -1,12 +1,12 @@
 -- Laws of the walk along the top level: what is left of framing and of the course, and what the whole comes to.
 use mathlib.Core.Path.{◌≡◌, refl, sym, ap, ◌∙◌}
 use mathlib.Core.List.{List, []}
-use Prim.Native.Nat.{ℕ, ◌+◌, ◌-◌, ◌≤◌}
+use Prim.Native.Nat.{ℕ, ◌+◌, ◌-◌, ◌≤◌, ◌<◌}
 use native.Mathlib.Nat.{sub_self}
 use native.Mathlib.Omega.{arith}
 use lib.ListN.{length, take, drop}
 use lib.Dec.{leb}
-use borrow.Author.Tests.{le-leb, leb-true}
+use borrow.Author.Tests.{le-leb, lt-leb, leb-true}
 use Rattle.rules.specs.Limits.{byte_limit}
 use Rattle.rules.specs.Boxes.{Box, look, boxes, forest, whole}
 use Rattle.rules.specs.Framing.{framing, framed, framing_rule}
@@ -20,7 +20,7 @@ use Rattle.rules.specs.declared.Path.TheVariants.{Top}
 use Rattle.rules.specs.declared.Reached.TheVariants.{Start, Typed, Headed, Halved, Paired}
 use Rattle.rules.proofs.Forest.{look_found, boxes_box}
 use Rattle.rules.proofs.OnePass.{one_pass}
-use Rattle.rules.proofs.Then.{then_holds, then_breaks, must_true, must_holds}
+use Rattle.rules.proofs.Then.{then_holds, then_breaks, must_true, must_false, must_holds}
 use Rattle.boxes.proofs.Stands.{stands_here}
 use Rattle.track.specs.Course.{CourseFits, waits_from}
 use Rattle.track.proofs.OwnBytes.{own_bytes, own_length, own_whole}
@@ -37,9 +37,14 @@ pub walking_begins : (s : List ℕ) → Walking s 0 0 (Ok Start)
 walking_begins s = record { framing = refl; course = refl; fits = tt; inner = omega arith }
 
 -- over the byte limit
-pub over_limit : (s : List ℕ) {r : Rule} → r ≡ must (leb (length s) byte_limit) 1 0 → {e : Refusal} → r ≡ Err e → Err e ≡ judgement s
+pub over_limit : (s : List ℕ) → byte_limit < length s → breaks 1 0 0 ≡ judgement s
 unfolding judgement ruling rule1
-over_limit s m i = sym (judged_breaks (facts_of s) (then_breaks _ (sym m ∙ i)))
+over_limit s h = sym (judged_breaks (facts_of s) (then_breaks _ (must_false 1 0 (lt-leb (length s) byte_limit h))))
+
+-- the test of the byte limit fails, and holds
+pub too_long : (s : List ℕ) {r : Rule} → r ≡ must (leb (length s) byte_limit) 1 0 → {e : Refusal} → r ≡ Err e → Err e ≡ judgement s
+unfolding judgement ruling rule1
+too_long s m i = sym (judged_breaks (facts_of s) (then_breaks _ (sym m ∙ i)))
 
 pub within_limit : (s : List ℕ) {r : Rule} → r ≡ must (leb (length s) byte_limit) 1 0 → r ≡ Ok tt → length s ≤ byte_limit
 within_limit s m i = leb-true (length s) byte_limit (must_holds _ 1 0 (sym m ∙ i))

@@ -9,7 +9,7 @@ use lib.Dec.{eqb}
 use Rattle.numbers.specs.Numbers.{when}
 use Rattle.rules.specs.Rules.{◌then◌, Course, Judged, Rule, breaks}
 use Rattle.rules.specs.Boxes.{Box}
-use Rattle.rules.specs.Kinds.{ftyp, moov}
+use Rattle.rules.specs.Kinds.{ftyp, moov, moof, mdat}
 use Rattle.rules.specs.Order.{ordered, awaits, step6}
 use Rattle.rules.specs.Header.{header_rules}
 use Rattle.rules.specs.Chunk.{shape, timing, start_of, end_of, first_run, sync_in, begins_one, opens, rule21}
@@ -23,13 +23,13 @@ use Rattle.rules.specs.declared.Spot.{Spot}
 use Rattle.rules.specs.declared.Stage.{Stage}
 use Rattle.rules.specs.declared.Stage.TheVariants as stage
 use Rattle.rules.specs.declared.TrackFacts.{TrackFacts}
-use Rattle.rules.proofs.OnePass.{after_box_lem, grown_few}
+use Rattle.rules.proofs.OnePass.{after_box_lem, grown_few, spoken, unspoken}
 use Rattle.rules.proofs.Then.{then_first, then_second, must_holds, moved_then, moved_holds, moved_breaks}
 use Rattle.boxes.specs.Stands.{Stands}
 use Rattle.header.specs.Answers.{FactsIn, HeadsAs, HeadsUpTo}
 use Rattle.header.specs.declared.HeaderFacts.{HeaderFacts}
 use Rattle.header.specs.declared.HeaderFault.{HeaderFault}
-use Rattle.header.specs.declared.HeaderFault.TheVariants.{OfFtyp, OfMoov}
+use Rattle.header.specs.declared.HeaderFault.TheVariants.{FtypBody, NoBrand, OfMoov}
 use Rattle.track.specs.Course.{box_of, FewFragments, OwnHeld, Brings, Stops, SaysPasses, FaultUpTo, refusal_of}
 
 -- a rule that holds, and one that breaks
@@ -54,11 +54,13 @@ module _ (f : Option Bool) (at : ℕ) (m : List ℕ) where
 
   -- a fault of the header
   pub header_fault : (x : HeaderFault) → HeadsAs (Err x) f m → Err (refusal_of x at) ≡ opened f at m
-  header_fault (OfFtyp n) h = header_bad (h at)
+  header_fault FtypBody h = header_bad (h at)
+  header_fault NoBrand h = header_bad (h at)
   header_fault (OfMoov e) h = header_bad (h.1 at)
 
 pub fault_small : {b : ℕ} (x : HeaderFault) (n : ℕ) → n ≤ b → HeadsUpTo (Err x) n → FaultUpTo x b
-fault_small (OfFtyp k) n l h = tt
+fault_small FtypBody n l h = tt
+fault_small NoBrand n l h = tt
 fault_small (OfMoov e) n l h = omega arith
 
 -- the first start, and one fragment more, as the code has them
@@ -198,7 +200,7 @@ brings (Halved j m) k e i o s = (o.high, o.holds)
 brings (Paired j) k e i o s = tt
 
 -- where no other box may stand, every box stops the course
-pub stops_strict : (g : Stage) (k w : ℕ) (n : Stage) → step6 g k ≡ when (eqb k w) (Some n) None → (eqb k w ≡ true → ordered k ≡ true)
+stops_strict : (g : Stage) (k w : ℕ) (n : Stage) → step6 g k ≡ when (eqb k w) (Some n) None → (eqb k w ≡ true → ordered k ≡ true)
     → (ordered k ≡ true) ⊎ (step6 g k ≡ None)
 stops_strict g k w n q f = by (eqb k w) refl q
   where
@@ -207,7 +209,7 @@ stops_strict g k w n q f = by (eqb k w) refl q
     by false e r = inr r
 
 -- where others may stand, a box that the order doesn't speak of is passed over
-pub passes_loose : (k : ℕ) (o : Bool) → o ≡ ordered k → (c : Reached) (w : ℕ) (n : Stage) → step6 (stage_of c) k ≡ awaits w n (stage_of c) k
+passes_loose : (k : ℕ) (o : Bool) → o ≡ ordered k → (c : Reached) (w : ℕ) (n : Stage) → step6 (stage_of c) k ≡ awaits w n (stage_of c) k
     → (ordered k ≡ false → eqb k w ≡ false) → SaysPasses (not o) (Ok c) k
 unfolding and_box awaits
 passes_loose k true e c w n q f = inl (sym e)
@@ -217,6 +219,23 @@ passes_loose k false e c w n q f = λ own v b. rw (q, f (sym e), ← e)
 pub passes_broken : (p k : ℕ) → SaysPasses true (Err p) k
 unfolding and_box
 passes_broken p k = λ own w b. refl
+
+-- at the stages where others may stand, and at the two where they may not
+pub loosely : (c : Reached) (k : ℕ) (o : Bool) → o ≡ ordered k
+    → ((x : Option Bool) × (c ≡ Typed x)) ⊎ (((x : Judged) × (c ≡ Headed x)) ⊎ ((x : Judged) × (c ≡ Paired x))) → SaysPasses (not o) (Ok c) k
+unfolding step6
+loosely c k o e (inl w) = rw w.1 (passes_loose k o e (Typed w.0) moov stage.Headed refl (λ u. (unspoken k u).0))
+loosely c k o e (inr (inl w)) = rw w.1 (passes_loose k o e (Headed w.0) moof stage.Halved refl (λ u. (unspoken k u).1))
+loosely c k o e (inr (inr w)) = rw w.1 (passes_loose k o e (Paired w.0) moof stage.Halved refl (λ u. (unspoken k u).1))
+
+pub strictly : (c : Reached) (k : ℕ) → ((x : Option Bool) → c ≡ Typed x → ⊥) → ((x : Judged) → c ≡ Headed x → ⊥) → ((x : Judged) → c ≡ Paired x → ⊥)
+    → SaysPasses false (Ok c) k
+unfolding step6
+strictly Start k t h p = stops_strict stage.Start k ftyp stage.Typed refl (spoken k).0
+strictly (Typed f) k t h p = absurd (t f refl)
+strictly (Headed j) k t h p = absurd (h j refl)
+strictly (Halved j m) k t h p = stops_strict stage.Halved k mdat stage.Paired refl (spoken k).3
+strictly (Paired j) k t h p = absurd (p j refl)
 
 -- a box that is not passed over stops the course
 pub stopped : (o : Bool) (c : Course) (k : ℕ) → SaysPasses o c k → not o ≡ true → Stops c k

@@ -22,7 +22,7 @@ use Rattle.rules.proofs.Sound.{accepted_keeps}
 use Rattle.rules.proofs.Then.{must_holds}
 use Rattle.track.specs.Course.{Known}
 use Rattle.track.specs.Cursor.{begun_from, EachSync, NextAt, IsNextFragment}
-use Rattle.track.specs.declared.cursor.Fragment.{Fragment}
+use Rattle.track.specs.declared.cursor.FragmentAt.{FragmentAt}
 use Rattle.track.specs.declared.cursor.Fragments.{Fragments}
 
 -- each start, and the last end, if there is one
@@ -77,14 +77,14 @@ module _ (s : List ℕ) (f : TrackFacts) (k : Known s f) where
       ap₂ {C = List ℕ} (λ (e : Option ℕ) (xs : List ℕ). written s e xs) known_end known_begun ∙ sym (boundaries_written s)
 
 -- the fragments of a track from a place on
-pub record Over (s : List ℕ) (f : TrackFacts) (fs : Fragments) : Type 0 where
+pub record WalksOver (s : List ℕ) (f : TrackFacts) (fs : Fragments) : Type 0 where
   pub bytes : fs.bytes.now ≡ s
   pub header : fs.header ≡ f.header
   pub plain : fs.plain ≡ f.plain
 
 -- from the first on
 pub over_first : {s : List ℕ} {f : TrackFacts} {fs gs : Fragments} → gs ≡ fs
-    → (fs.bytes.now ≡ s) × (fs.header ≡ f.header) × (fs.plain ≡ f.plain) × (fs.at ≡ 0) → Over s f gs
+    → (fs.bytes.now ≡ s) × (fs.header ≡ f.header) × (fs.plain ≡ f.plain) × (fs.at ≡ 0) → WalksOver s f gs
 over_first e b =
     record {
       bytes = ap (λ (x : Fragments). x.bytes.now) e ∙ b.0;
@@ -93,21 +93,21 @@ over_first e b =
     }
 
 -- a fragment was given, and others are left
-abbrev pub Gives : Fragments → Fragment → Fragments → Type 0
-Gives fs x gs =
+abbrev pub NextGives : Fragments → FragmentAt → Fragments → Type 0
+NextGives fs x gs =
     IsNextFragment (Some x) fs.bytes.now fs.header fs.at × (gs.bytes.now ≡ fs.bytes.now) × (gs.header ≡ fs.header) × (gs.plain ≡ fs.plain)
     × (gs.at ≡ x.next)
 
-module _ {s : List ℕ} {f : TrackFacts} {fs : Fragments} (o : Over s f fs) where
+module _ {s : List ℕ} {f : TrackFacts} {fs : Fragments} (o : WalksOver s f fs) where
   -- the next one, and none
-  pub next_over : {x : Fragment} → IsNextFragment (Some x) fs.bytes.now fs.header fs.at → NextAt s f.header fs.at x.place x.next x.start
+  pub next_over : {x : FragmentAt} → IsNextFragment (Some x) fs.bytes.now fs.header fs.at → NextAt s f.header fs.at x.place x.next x.start
   next_over {x} n = rw (o.bytes, o.header) at n
 
   pub none_over : IsNextFragment None fs.bytes.now fs.header fs.at → begun_from s f.header fs.at ≡ []
   none_over n = rw (o.bytes, o.header) at n
 
   -- behind it
-  pub over_on : {fs' : Fragments} → fs'.bytes.now ≡ fs.bytes.now → fs'.header ≡ fs.header → fs'.plain ≡ fs.plain → Over s f fs'
+  pub over_on : {fs' : Fragments} → fs'.bytes.now ≡ fs.bytes.now → fs'.header ≡ fs.header → fs'.plain ≡ fs.plain → WalksOver s f fs'
   over_on b h p = record { bytes = b ∙ o.bytes; header = h ∙ o.header; plain = p ∙ o.plain }
 
 -- as many places as fragments
@@ -184,7 +184,7 @@ module _ (s t₀ : List ℕ) {f : TrackFacts} {at k : ℕ} {t : List ℕ} (w : W
 
 -- the same, by the fragments that are left
 pub record WritingBy (s t₀ : List ℕ) (f : TrackFacts) (fs : Fragments) (k : ℕ) (t : List ℕ) : Type 0 where
-  pub over : Over s f fs
+  pub over : WalksOver s f fs
   pub writing : Writing s t₀ f fs.at k t
 
 pub writing_by_begins : {s t : List ℕ} {f : TrackFacts} → Known s f → length (boundaries s) ≤ length t → {fs gs : Fragments} → gs ≡ fs
@@ -201,7 +201,7 @@ module _ {s t₀ : List ℕ} {f : TrackFacts} {fs : Fragments} {k : ℕ} {t : Li
   by_counted = rw w.over.bytes (omega (arith, w.writing.bounded))
 
   -- a start
-  pub writing_by_on : {x : Fragment} {gs : Fragments} → Gives fs x gs → {i j : ℕ} → i ≡ k → j ≡ k + 1 → WritingBy s t₀ f gs j (set t i x.start)
+  pub writing_by_on : {x : FragmentAt} {gs : Fragments} → NextGives fs x gs → {i j : ℕ} → i ≡ k → j ≡ k + 1 → WritingBy s t₀ f gs j (set t i x.start)
   writing_by_on n i j =
       record {
         over = over_on w.over n.1 n.2 n.3;
@@ -245,6 +245,11 @@ module _ (s : List ℕ) where
       by : (r : Rule) → ruling s ≡ r → Ok f ≡ judged_by r (facts_of s) → Known s f
       by (Ok u) e q = record { holds = e; facts = cc }
       by (Err b) e q = let z : ◌≡◌ {A = ℕ} 0 1 = cc in absurd (omega arith)
+
+  -- and the other way round
+  pub known_accepted : {f : TrackFacts} → Known s f → judgement s ≡ Ok f
+  unfolding judgement judged_by
+  known_accepted k = rw (k.holds, k.facts)
 
   pub refused_broken : {n t p : ℕ} → breaks n t p ≡ judgement s → ruling s ≡ breaks n t p
   unfolding judgement judged_by

@@ -14,7 +14,7 @@ use Rattle.rules.specs.declared.Spot.{Spot}
 use Rattle.rules.specs.declared.TrackFacts.{TrackFacts}
 use Rattle.boxes.specs.Stands.{WholeBox}
 use Rattle.header.specs.declared.HeaderFault.{HeaderFault}
-use Rattle.header.specs.declared.HeaderFault.TheVariants.{OfFtyp, OfMoov}
+use Rattle.header.specs.declared.HeaderFault.TheVariants.{FtypBody, NoBrand, OfMoov}
 
 -- the box that stands at a spot, of a type
 abbrev pub box_of : Spot → ℕ → Box
@@ -69,12 +69,14 @@ Brings own (Paired j) b = Unit {0}
 
 -- a header's fault in `moov` is at a place up to n
 abbrev pub FaultUpTo : HeaderFault → ℕ → Type 0
-FaultUpTo (OfFtyp k) n = Unit {0}
+FaultUpTo FtypBody n = Unit {0}
+FaultUpTo NoBrand n = Unit {0}
 FaultUpTo (OfMoov e) n = e.place ≤ n
 
 -- the refusal of a header whose `moov` stands at a place
 abbrev pub refusal_of : HeaderFault → ℕ → Refusal
-refusal_of (OfFtyp n) at = record { number = n; track = 0; place = 0 }
+refusal_of FtypBody at = record { number = 8; track = 0; place = 0 }
+refusal_of NoBrand at = record { number = 9; track = 0; place = 0 }
 refusal_of (OfMoov e) at = record { number = e.number; track = e.track; place = at + e.place }
 
 -- where the `moof` that waits before a place begins; the place itself where none waits

@@ -3,7 +3,7 @@ use Rattle.std.specs.Prelude.{ℕ, ◌≤◌, ◌<◌, ◌≡◌, Bool, true, Li
 use Rattle.rules.specs.Track.{chunks_from, start_at, sync_at, begun_among, first_moofs}
 use Rattle.rules.specs.Course.{each_sync}
 use Rattle.rules.specs.declared.Header.{Header}
-use Rattle.track.specs.declared.cursor.Fragment.{Fragment}
+use Rattle.track.specs.declared.cursor.FragmentAt.{FragmentAt}
 
 -- where fragments begin from a place on, behind others
 unfoldable pub begun_from : List ℕ → Header → ℕ → List ℕ
@@ -22,6 +22,6 @@ pub record NextAt (s : List ℕ) (h : Header) (at p q v : ℕ) : Type 0 where
   pub sync : (plain : Bool) → EachSync plain s h at → EachSync plain s h q
 
 -- the next fragment from a place on, or none
-abbrev pub IsNextFragment : Option Fragment → List ℕ → Header → ℕ → Type 0
+abbrev pub IsNextFragment : Option FragmentAt → List ℕ → Header → ℕ → Type 0
 IsNextFragment (Some f) s h at = NextAt s h at f.place f.next f.start
 IsNextFragment None s h at = begun_from s h at ≡ []

@@ -37,6 +37,7 @@ impl<'a> AcceptedTrack<'a> {
     }
 
     // Its fragments, from the first on.
+    #[tactic(auto, using(crate::proofs::Table::accepted_known, crate::proofs::Table::known_short, crate::proofs::Table::known_sync))]
     pub fn fragments(self) -> Fragments<'a>
         ensures { (result.bytes.now ≡ self.entry.bytes.now) × (result.header ≡ self.entry.facts.header) × (result.plain ≡ self.entry.facts.plain) × (result.at ≡ 0) }
     {
@@ -53,6 +54,7 @@ impl<'a> AcceptedTrack<'a> {
         requires { length (boundaries self.bytes.now) ≤ length t.old }
         ensures { t.new ≡ boundaries self.entry.bytes.now ++ drop (length (boundaries self.entry.bytes.now)) t.old }
     {
+        // By index and no zip over the table: the last end goes in behind the starts by its index too, so a zip is no plainer.
         for (k, fragment) in self.fragments().enumerate() {
             t[k] = fragment.start;
         }

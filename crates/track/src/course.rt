@@ -61,7 +61,7 @@ fn stage_of(reached: Reached) -> Stage
 }
 
 // A refusal at a place of a box's bytes, by where the box stands.
-fn moved(e: Refusal, base: usize) -> Refusal
+fn moved_by(e: Refusal, base: usize) -> Refusal
     requires { (e.place ≤ byte_limit) × (base ≤ byte_limit) }
     ensures { result ≡ record { number = e.number; track = e.track; place = base + e.place } }
 {
@@ -72,13 +72,14 @@ fn moved(e: Refusal, base: usize) -> Refusal
 }
 
 // The refusal of a header whose `moov` stands at a place.
-fn refused(fault: HeaderFault, at: usize) -> Refusal
+fn refusal_of(fault: HeaderFault, at: usize) -> Refusal
     requires { FaultUpTo fault byte_limit × (at ≤ byte_limit) }
     ensures { result ≡ refusal_of fault at }
 {
     match fault {
-        HeaderFault::OfFtyp(number) => Refusal::new(number, 0, 0),
-        HeaderFault::OfMoov(e) => moved(e, at),
+        HeaderFault::FtypBody => Refusal::new(8, 0, 0),
+        HeaderFault::NoBrand => Refusal::new(9, 0, 0),
+        HeaderFault::OfMoov(e) => moved_by(e, at),
     }
 }
 
@@ -98,7 +99,7 @@ fn opened(own: &[u8], f: Option<bool>, b: Spot) -> Judged
             start: None,
             end: None,
         }),
-        Err(fault) => Err(refused(fault, b.at)),
+        Err(fault) => Err(refusal_of(fault, b.at)),
     }
 }
 
@@ -122,7 +123,7 @@ fn and_chunk(moof: &[u8], f: TrackFacts, m: Spot, mdat: Spot) -> Judged
             end: Some(x.end),
             ..f
         }),
-        Err(e) => Err(moved(e, m.at)),
+        Err(e) => Err(moved_by(e, m.at)),
     }
 }
 
@@ -137,7 +138,8 @@ fn joined(moof: &[u8], sofar: Judged, m: Spot, mdat: Spot) -> Judged
     and_chunk(moof, facts, m, mdat)
 }
 
-// What the box that a stage awaits brings, by its own bytes and those of the `moof` that waits.
+// What the box that a stage awaits brings, by its own bytes and those of the `moof` that waits. `CourseFits` stands in three contracts and in no struct, no
+// plainer: the bytes that wait are the caller's, in a slice or in a buffer, and other ones at each call.
 #[tactic(auto, unfolding(rules::specs::Course::brought))]
 fn brought(own: &[u8], waits: &[u8], reached: Reached, b: Spot) -> Reached
     requires { CourseFits waits.now (Ok reached) × Brings own.now reached b }
@@ -159,13 +161,10 @@ pub fn passes(course: Course, kind: u32) -> bool
     let Ok(reached) = course else {
         return true;
     };
-    match reached {
-        Reached::Start => false,
-        Reached::Typed(_) => !ordered(kind),
-        Reached::Headed(_) => !ordered(kind),
-        Reached::Halved(..) => false,
-        Reached::Paired(_) => !ordered(kind),
-    }
+    matches!(
+        reached,
+        Reached::Typed(_) | Reached::Headed(_) | Reached::Paired(_)
+    ) && !ordered(kind)
 }
 
 // Where the `moof` that waits before a place begins; the place itself where none waits.
@@ -180,6 +179,7 @@ pub fn waits_from(course: Course, at: usize) -> usize
 
 // One box more, which is not passed over, by its own bytes and those of the `moof` that waits: rule 6 tells whether it may stand there, and then it
 // brings what its stage awaits. Of the own bytes only those of `ftyp` and `moov` are looked at.
+#[tactic(auto, using(crate::proofs::Stepping::box_wrong, crate::proofs::Stepping::box_brought, crate::proofs::Stepping::brings), unfolding(rules::specs::Course::and_box))]
 pub fn and_box(own: &[u8], waits: &[u8], course: Course, b: Spot, kind: u32) -> Course
     requires { CourseFits waits.now course × OwnHeld own.now b kind × Stops course kind }
     ensures { result ≡ and_box own.now waits.now course (box_of b kind) }

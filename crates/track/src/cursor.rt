@@ -8,12 +8,12 @@ ghost use Rattle.track.specs.Cursor.{EachSync, IsNextFragment};
 
 use boxes::kinds::MOOF;
 use chunk::again;
-use rules::{Defaults, Header, Look, Spot};
+use rules::{Defaults, Header, Spot};
 
 // A fragment: the place of its first `moof`, where the walk goes on behind that, and its start. It ends where the next one starts, the last one at
 // the track's last end.
 #[derive(Clone, Copy)]
-pub struct Fragment {
+pub struct FragmentAt {
     pub place: usize,
     pub next: usize,
     pub start: u64,
@@ -40,38 +40,33 @@ fn leads(m: &[u8], traf: Spot, d: Defaults, plain: bool) -> bool
 }
 
 // The next fragment that begins from a place on, by what the header tells and whether it is known that each chunk begins one.
-pub fn next_fragment(s: &[u8], at: usize, h: Header, plain: bool) -> Option<Fragment>
+pub fn next_fragment(s: &[u8], at: usize, h: Header, plain: bool) -> Option<FragmentAt>
     requires { (length s.now ≤ byte_limit) × EachSync plain s.now h at }
     ensures { IsNextFragment result s.now h at }
 {
-    let mut here = at;
-    while let Look::Good { head, size, kind } = boxes::look(s, here) {
-        let next = here + size;
-        if kind == MOOF {
-            let m = &s[here..next];
-            let traf = again::traf_in(m, head);
+    for b in boxes::along(s, at) {
+        if b.kind == MOOF {
+            let place = b.spot.at;
+            let next = place + b.spot.size;
+            let m = &s[place..next];
+            let traf = again::traf_in(m, b.spot.head);
             if leads(m, traf, h.defaults, plain) {
                 let start = again::start_in(m, traf);
-                return Some(Fragment {
-                    place: here,
-                    next,
-                    start,
-                });
+                return Some(FragmentAt { place, next, start });
             }
         }
-        here = next;
     }
     None
 }
 
 impl<'a> Iterator for Fragments<'a> {
-    type Item = Fragment;
+    type Item = FragmentAt;
 
     ghost remaining = { λ s. at_most (length s.bytes.now - s.at) };
 
     ghost next_gives = { λ s r t. IsNextFragment r s.bytes.now s.header s.at × (t.bytes.now ≡ s.bytes.now) × (t.header ≡ s.header) × (t.plain ≡ s.plain) × IfSome r (λ f. t.at ≡ f.next) };
 
-    fn next(&mut self) -> Option<Fragment> {
+    fn next(&mut self) -> Option<FragmentAt> {
         let fragment = next_fragment(self.bytes, self.at, self.header, self.plain)?;
         self.at = fragment.next;
         Some(fragment)

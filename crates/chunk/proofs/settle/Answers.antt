@@ -28,13 +28,6 @@ all_runs :
 all_runs m s x k right found {want} {t = t} w g =
     subst (λ (rs : List ℕ). Walked m want k.own (length m + s.head) rs [] t) (front_runs m right x.traf x.run found.traf found.run) (rw g at w)
 
-pub slice_bounds-walk-end : goal.slice_bounds-walk-end
-slice_bounds-walk-end c = sym (length-take-le _ _ c.requires.m_len_bound.1.traf.stands.fits)
-
-pub walk-requires : goal.walk-requires
-walk-requires c =
-    record { m_len_bound = (c.requires.m_len_bound.0, omega (arith, c.requires.m_len_bound.0, c.args.s.head_low)); s_value = front_is c.args.m.now _ c.requires.m_len_bound.1.traf.stands.fits }
-
 pub returns-in_err-all : goal.returns-in_err-all
 returns-in_err-all c =
     let a = c.args in

@@ -4,12 +4,6 @@ use Rattle.rules.specs.Rules.{◌then◌}
 use Rattle.counts.proofs.Judged.{begins, judged}
 use Rattle.counts.proofs.count_boxes.Goals as goal
 
-pub slice_bounds-tally-end : goal.slice_bounds-tally-end
-slice_bounds-tally-end c = sym (length-take-le _ _ c.requires.fits)
-
-pub tally-t-requires : goal.tally-t-requires
-tally-t-requires c = begins _ _ c.requires
-
 pub returns : goal.returns
 unfolding ◌then◌
 returns c = judged _ _ c.requires _

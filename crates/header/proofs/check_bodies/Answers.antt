@@ -27,10 +27,8 @@ returns-in_err-rules_of_values c =
     let r = err_from_is_err_and c.from_residual-in_err-rules_of_values.result c.from_residual-in_err-rules_of_values.ensures.1 in
     rw (r.1, r.2) (record { heads_as = met.0; heads_up_to = met.1 })
 
-pub returns : goal.returns
-returns c =
-    let p = c.requires in
+pub returns-clause-heads_as : goal.returns-clause-heads_as
+returns-clause-heads_as c = let p = c.requires in
     let v = bodies_tell _ p.1 _ p.0 c.read_bodies.ensures c.in_ok-v.was in
-    let met = all_hold _ p.1 _ p.0 v.1 c.if-not-branded.false c.rules_of_values.ensures c.in_ok-rules_of_values.was
-    (header_is _ _ _ v.0 refl refl refl refl) refl refl in
-    record { heads_as = met.0; heads_up_to = met.1 }
+    let met = all_hold _ p.1 _ p.0 v.1 c.if-not-branded.false c.rules_of_values.ensures c.in_ok-rules_of_values.was (header_is _ _ _ v.0 refl refl refl refl) refl refl in
+    met.0

@@ -7,4 +7,4 @@ pub step-moved-requires : goal.step-moved-requires
 step-moved-requires c = going_follows c.loop-rest.invariant (search rules)
 
 pub loop-rest-preserved : goal.loop-rest-preserved
-loop-rest-preserved c = rw rest_of_lem (going_on c.loop-rest.invariant c.step-moved.ensures)
+loop-rest-preserved c = rw rest_of_lem (going_on c.loop-rest.invariant c.step-moved.ensures.takes)

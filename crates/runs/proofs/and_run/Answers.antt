@@ -1,7 +1,7 @@
 -- `runs::and_run` meets its contract. Assumes nothing.
 use Rattle.std.proofs.Common.{ap, ◌∙◌, arith}
 use Rattle.rules.specs.Rules.{◌then◌, Rule}
-use Rattle.runs.proofs.Walked.{due_before_run, walked_out, walked_in}
+use Rattle.runs.proofs.Walked.{walked_out, walked_in}
 use Rattle.runs.proofs.and_run.Goals as goal
 
 pub returns-then-not-due : goal.returns-then-not-due
@@ -15,12 +15,6 @@ returns-then-not-due c =
           c.not_both.result c.not_both.ensures _ (c.and-clash.ensures ∙ ap (λ (q : Rule). a.t.clash then q) c.must.ensures) idle,
       omega arith,
     )
-
-pub and_samples-span-requires-clause-small_sums : goal.and_samples-span-requires-clause-small_sums
-unfolding ◌then◌
-and_samples-span-requires-clause-small_sums c =
-    let due = rw c.if-not-due.false at c.due.ensures in
-    c.requires.low.0 (due_before_run c.args.want c.args.t _ _ _ c.and-clash.ensures due)
 
 pub returns : goal.returns
 unfolding ◌then◌

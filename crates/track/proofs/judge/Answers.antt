@@ -5,7 +5,7 @@ use native.Mathlib.Omega.{arith}
 use Rattle.std.proofs.lemmas.Result.{err_from_is_err_and}
 use Rattle.rules.proofs.Forest.{look_found}
 use Rattle.boxes.proofs.Stands.{stands_here}
-use Rattle.track.proofs.Judging.{Walking, walking_begins, over_limit, within_limit, waits_low, waits_whole, walking_on, walking_ends, walking_breaks}
+use Rattle.track.proofs.Judging.{Walking, walking_begins, too_long, within_limit, waits_low, waits_whole, walking_on, walking_ends, walking_breaks}
 use Rattle.track.proofs.OwnBytes.{own_held}
 use Rattle.track.proofs.Stepping.{stopped, passed_over}
 use Rattle.track.proofs.judge.Goals as goal
@@ -13,7 +13,7 @@ use Rattle.track.proofs.judge.Goals as goal
 pub returns-in_err-must : goal.returns-in_err-must
 returns-in_err-must c =
     let r = err_from_is_err_and c.from_residual.result c.from_residual.ensures.1 in
-    rw (r.1, r.2) (over_limit c.args.s.now c.must.ensures c.in_err-must.was)
+    rw (r.1, r.2) (too_long c.args.s.now c.must.ensures c.in_err-must.was)
 
 pub loop-past-init : goal.loop-past-init
 loop-past-init c = walking_begins _

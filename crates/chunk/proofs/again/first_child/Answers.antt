@@ -1,17 +1,14 @@
 -- `chunk::again::first_child` meets its contract. Assumes nothing.
-use Rattle.boxes.proofs.Walks.{over}
-use Rattle.chunk.proofs.First.{child_none, child_here, child_later}
+use Rattle.std.proofs.Common.{rules, tests}
+use Rattle.chunk.proofs.First.{child_found, child_absent}
 use Rattle.chunk.proofs.again.first_child.Goals as goal
 
-pub returns-in_default : goal.returns-in_default
-returns-in_default c =
-    let l = c.loop-head in
-    child_none c.args.m.now c.args.x c.requires c.args.w l.at l.invariant (over _ _ _ c.look-l.ensures.value c.in_default.not-Good)
+pub returns-in-Some : goal.returns-in-Some
+returns-in-Some c = let a = c.args in
+    let n = c.along.ensures in
+    child_found a.m.now a.x c.requires a.w _ _ (λ b r q k. search (rules, tests)) c.along.result c.find.new.self n.0 n.1 _ c.in-Some.ensures.ran
 
-pub returns-then-kind-w : goal.returns-then-kind-w
-returns-then-kind-w c =
-    let l = c.loop-head in child_here c.args.m.now c.args.x c.requires c.args.w l.at c.look-l.ensures.value c.in-Good.is l.invariant c.if-kind-w.true
-
-pub loop-head-preserved : goal.loop-head-preserved
-loop-head-preserved c =
-    let l = c.loop-head in child_later c.args.m.now c.args.x c.requires c.args.w l.at c.look-l.ensures.value c.in-Good.is l.invariant c.if-kind-w.false
+pub returns-in-None : goal.returns-in-None
+returns-in-None c = let a = c.args in
+    let n = c.along.ensures in
+    child_absent a.m.now a.x c.requires a.w _ _ (λ b r q k. search (rules, tests)) c.along.result c.find.new.self n.0 n.1 c.in-None.ensures.ran

@@ -6,7 +6,7 @@ use Rattle.rules.specs.Header.{dinf_in, stbl_in}
 use Rattle.rules.specs.declared.Entry.TheVariants.{One}
 use Rattle.counts.proofs.Firsts.{counts_1, counts_2}
 use Rattle.boxes.specs.Stands.{StandsAt}
-use Rattle.header.proofs.Found.{met, judged, judged_join, joined}
+use Rattle.header.proofs.Found.{met, judged, judged_join, then_of_and}
 use Rattle.header.proofs.containers.in_minf.Goals as goal
 
 pub returns : goal.returns
@@ -20,7 +20,7 @@ returns c = let x = c.requires in
     record {
       minf = judged x i refl;
       dinf = judged d c.count_boxes-k-2.ensures (counts_1 _ _ _ _);
-      stbl = judged_join _ (One stsd ∷ One stts ∷ One stsc ∷ []) (One stsz ∷ One stco ∷ []) (joined _ _ c.and.ensures) (judged y k refl) (judged y l (counts_2 _ _ _ _ _));
+      stbl = judged_join _ (One stsd ∷ One stts ∷ One stsc ∷ []) (One stsz ∷ One stco ∷ []) (then_of_and _ _ c.and.ensures) (judged y k refl) (judged y l (counts_2 _ _ _ _ _));
       media = met x i.a;
       stsd = met y k.a;
       stts = met y k.b;

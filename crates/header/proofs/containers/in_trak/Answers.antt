@@ -6,7 +6,7 @@ use Rattle.rules.specs.Header.{mdia_in, minf_in}
 use Rattle.rules.specs.declared.Entry.TheVariants.{One, AtMostOne}
 use Rattle.counts.proofs.Firsts.{counts_1}
 use Rattle.boxes.specs.Stands.{StandsAt}
-use Rattle.header.proofs.Found.{met, judged, judged_if, judged_join, joined}
+use Rattle.header.proofs.Found.{met, judged, judged_if, judged_join, then_of_and}
 use Rattle.header.proofs.containers.in_trak.Goals as goal
 
 pub returns : goal.returns
@@ -19,7 +19,7 @@ returns c = let x = c.requires in
     record {
       trak = judged x t refl;
       edts = judged_if x _ t.b c.counts_if.ensures.value c.counts_if.ensures.placed_up_to;
-      mdia = judged_join _ (One mdhd ∷ One hdlr ∷ AtMostOne elng ∷ []) (One minf ∷ []) (joined _ _ c.and.ensures) (judged y k refl) (judged y l (counts_1 _ _ _ _));
+      mdia = judged_join _ (One mdhd ∷ One hdlr ∷ AtMostOne elng ∷ []) (One minf ∷ []) (then_of_and _ _ c.and.ensures) (judged y k refl) (judged y l (counts_1 _ _ _ _));
       tkhd = met x t.a;
       mdhd = met y k.a;
       hdlr = met y k.b;

@@ -15,18 +15,18 @@ copy_in-requires c =
     let s = open_says _ _ (sym o.ensures ∙ c.if-open_box.true) in
     omega (arith, s.1, s.2, c.size_of.ensures, c.if-n-size_of.true)
 
-pub returns-in-Skip : goal.returns-in-Skip
-returns-in-Skip c = λ d total n. rw c.in-Skip.is (passes_on d total n c.args.head.now c.args.kept.now c.args.piece.now c.in-Skip.left c.in-Skip.place c.if-n-left.true)
+pub returns-in-Skip-clause-goes : goal.returns-in-Skip-clause-goes
+returns-in-Skip-clause-goes c = λ d total n. rw c.in-Skip.is (passes_on d total n c.args.head.now c.args.kept.now c.args.piece.now c.in-Skip.left c.in-Skip.place c.if-n-left.true)
 
-pub returns-in-Keep : goal.returns-in-Keep
-returns-in-Keep c =
+pub returns-in-Keep-clause-goes : goal.returns-in-Keep-clause-goes
+returns-in-Keep-clause-goes c =
     let o = c.open_box in λ d total n.
     rw (c.in-Keep.is, c.copy_in.ensures)
     (keeps_on d total n c.args.head.now c.args.kept.now c.args.piece.now c.in-Keep.held (omega (arith, c.well_formed))
     (sym o.ensures ∙ c.if-open_box.true)
     (rw c.size_of.ensures at c.if-n-size_of.true))
 
-pub returns-in-Head : goal.returns-in-Head
-returns-in-Head c = λ d total n.
+pub returns-in-Head-clause-goes : goal.returns-in-Head-clause-goes
+returns-in-Head-clause-goes c = λ d total n.
     rw (c.in-Head.is, c.copy_in-in-Head.ensures)
     (heads_on d total n c.args.head.now c.args.kept.now c.args.piece.now c.in-Head.held (omega (arith, c.well_formed)) (omega (arith, c.if-n-held.true)))

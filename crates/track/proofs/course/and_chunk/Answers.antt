@@ -14,12 +14,12 @@ returns-after-f c = let a = c.args in
     (ap (λ n. a.f.fragments + n) (c.from.ensures ∙ one_where _))
     (elim c.if-f.branch [ then-f w ↦ rw w.if-f.true w.result-is | else-f w ↦ rw w.if-f.false (w.result-is ∙ w.if-f.false) ])
 
-pub moved-requires : goal.moved-requires
-moved-requires c = let p = c.requires in
+pub moved_by-requires : goal.moved_by-requires
+moved_by-requires c = let p = c.requires in
     let k = rw c.in-Err.is at c.check_chunk.ensures in
     (omega (arith, k.2, p.whole_box.1), p.whole_box.2)
 
 pub returns-in-Err : goal.returns-in-Err
 returns-in-Err c = let a = c.args in
     let k = rw c.in-Err.is at c.check_chunk.ensures in
-    rw c.moved.ensures (chunk_bad a.f a.m.at a.moof.now a.mdat.head (a.mdat.size - a.mdat.head) k.0)
+    rw c.moved_by.ensures (chunk_bad a.f a.m.at a.moof.now a.mdat.head (a.mdat.size - a.mdat.head) k.0)
