@@ -10,7 +10,8 @@ ghost use Rattle.flangemint.specs.Gives.{in_order, Gives, answered_in, GivesAnsw
 use rules::{Answer, Verdict};
 
 // A verdict's five numbers, in the order in which C finds them.
-// No From: neither type is this crate's, so the impl would stand in rules, away from the edits `place_and_count`, `timescale_is_count` that hold C's order here.
+// No From: neither type is this crate's, so the impl would stand in rules,
+// away from the edits `place_and_count`, `timescale_is_count` that hold C's order here.
 fn in_order(v: Verdict) -> [u64; 5]
     ensures { result ≡ in_order v }
 {

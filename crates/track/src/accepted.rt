@@ -39,7 +39,8 @@ impl<'a> AcceptedTrack<'a> {
     // Its fragments, from the first on.
     #[tactic(auto, using(crate::proofs::Table::accepted_known, crate::proofs::Table::known_short, crate::proofs::Table::known_sync))]
     pub fn fragments(self) -> Fragments<'a>
-        ensures { (result.bytes.now ≡ self.entry.bytes.now) × (result.header ≡ self.entry.facts.header) × (result.plain ≡ self.entry.facts.plain) × (result.at ≡ 0) }
+        ensures { (result.bytes.now ≡ self.entry.bytes.now) × (result.header ≡ self.entry.facts.header)
+            × (result.plain ≡ self.entry.facts.plain) × (result.at ≡ 0) }
     {
         Fragments {
             bytes: self.bytes,

@@ -64,7 +64,8 @@ impl<'a> Iterator for Fragments<'a> {
 
     ghost remaining = { λ s. at_most (length s.bytes.now - s.at) };
 
-    ghost next_gives = { λ s r t. IsNextFragment r s.bytes.now s.header s.at × (t.bytes.now ≡ s.bytes.now) × (t.header ≡ s.header) × (t.plain ≡ s.plain) × IfSome r (λ f. t.at ≡ f.next) };
+    ghost next_gives = { λ s r t. IsNextFragment r s.bytes.now s.header s.at
+        × (t.bytes.now ≡ s.bytes.now) × (t.header ≡ s.header) × (t.plain ≡ s.plain) × IfSome r (λ f. t.at ≡ f.next) };
 
     fn next(&mut self) -> Option<FragmentAt> {
         let fragment = next_fragment(self.bytes, self.at, self.header, self.plain)?;
