@@ -1,3 +1,4 @@
+pub mod Containers
 pub mod Headers
 pub mod Walks
 pub mod Stands

@@ -138,6 +138,9 @@ module _ (m : List ℕ) (d : Defaults) (x : InMoof) (k : BodyValues) (n : ℕ) (
   some : 1 ≤ n
   some = leb-true 1 n (and_parts _ (leb n sample_limit) right).0
 
+  pub ticks_low : a.ticks ≤ 4294967295 * sample_limit
+  ticks_low = omega (arith, s.small.0, leb-true n sample_limit (and_parts (leb 1 n) _ right).1)
+
   ticks_are : duration_in m d ≡ a.ticks
   unfolding duration_in durations_of
   ticks_are = rw (← told.own) (omega (arith, s.ticks))

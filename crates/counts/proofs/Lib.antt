@@ -1,3 +1,4 @@
 pub mod Walked
+pub mod Plain
 pub mod Firsts
 pub mod Judged

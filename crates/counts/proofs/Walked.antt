@@ -2,7 +2,7 @@
 use mathlib.Core.Path.{◌≡◌, refl, sym, ap, ◌∙◌}
 use mathlib.Core.List.{List, []}
 use mathlib.Core.Bool.{Bool, true, false}
-use mathlib.Core.Logic.{inr}
+use mathlib.Core.Logic.{inl, inr}
 use Prim.Native.Nat.{ℕ}
 use native.Mathlib.Omega.{arith}
 use Rattle.numbers.specs.Numbers.{when}
@@ -21,12 +21,12 @@ use Rattle.counts.specs.declared.Sight.{Sight}
 
 -- one box more: what is seen, and what is kept of it
 module _ (x b : Spot) where
-  seen_again : (t : Times) → seen_of (again_by x t b) ≡ again x.at (seen_by t b.at)
+  pub seen_again : (t : Times) → seen_of (again_by x t b) ≡ again x.at (seen_by t b.at)
   seen_again Unseen = refl
   seen_again Single = refl
   seen_again (Several p) = refl
 
-  keeps_again : {s : List ℕ} {k : Spot} (t : Times) → Stands s x → Keeps s k (record { first = b; times = t }) → Keeps s k (again_by x t b)
+  pub keeps_again : {s : List ℕ} {k : Spot} (t : Times) → Stands s x → Keeps s k (record { first = b; times = t }) → Keeps s k (again_by x t b)
   keeps_again Unseen h g = record { first = refl; stands = inr h; second = tt }
   keeps_again Single h g = record { first = refl; stands = g.stands; second = omega (arith, h.fits) }
   keeps_again (Several p) h g = record { first = refl; stands = g.stands; second = g.second }
@@ -35,6 +35,10 @@ module _ (x b : Spot) where
 pub record SeenTo (s : List ℕ) (k : Spot) (from at : ℕ) (e : Entry) (v : Sight) : Type 0 where
   pub all : seen e (boxes s from) ≡ seen_from (seen_of v) e (boxes s at)
   pub keeps : Keeps s k v
+
+-- from there on, before the first box
+pub going_none : (s : List ℕ) (k : Spot) (from : ℕ) (e : Entry) → SeenTo s k from from e (record { first = k; times = Unseen })
+going_none s k from e = record { all = refl; keeps = record { first = refl; stands = inl refl; second = tt } }
 
 pub going_all : {s : List ℕ} {k : Spot} {from at : ℕ} {e : Entry} {v : Sight} → SeenTo s k from at e v → boxes s at ≡ [] → Saw s k from e v
 going_all {s} {k} {from} {at} {e} {v} g o = record { all = sym (g.all ∙ seen_end s at (seen_of v) e o); keeps = g.keeps }

@@ -50,6 +50,10 @@ module _ (s t : List ℕ) where
       let e = (must_refuses (leb (length s) byte_limit) 1 0 (sym g ∙ h)).1 in
       rw (passed_up v d, e) (sym (ap behind (sym g ∙ h) ∙ rw e refl))
 
+  -- four numbers a box
+  pub long : {f : Framing} {n : ℕ} → f ≡ framed s → f ≡ Ok n → length (rows (forest Top s 0) 0 0) ≡ 4 * n
+  long {f} {n} e g = omega (arith, rows_length (forest Top s 0) 0 0 0 n (sym e ∙ g))
+
   -- behind rule 1
   module _ {r : Rule} {u : _} (a : r ≡ must (leb (length s) byte_limit) 1 0) (b : r ≡ Ok u) where
     framed_by : (f : Framing) → framed s ≡ f → index_outcome s t ≡ on_framing f (λ n. room_for n 0 (index s) t) (λ k p. refused k 0 p t)
@@ -64,10 +68,6 @@ module _ (s t : List ℕ) where
     misframed v e g d = rw (passed_up v d) (sym (framed_by _ (sym e ∙ g)))
 
     module _ {f : Framing} {n : ℕ} (e : f ≡ framed s) (g : f ≡ Ok n) where
-      -- four numbers a box
-      long : length (rows (forest Top s 0) 0 0) ≡ 4 * n
-      long = omega (arith, rows_length (forest Top s 0) 0 0 0 n (sym e ∙ g))
-
       module _ {q : Rule} (o : q ≡ must (leb n (length t / 4)) 23 0) where
         -- 23
         pub no_room : {x : Refusal} (v : Result ℕ Refusal) → q ≡ Err x → IsErrAnd v (λ y. y ≡ x) → Permits index_outcome s t (indexed v) t
@@ -77,7 +77,7 @@ module _ (s t : List ℕ) where
             let less = leb-false n (length t / 4) m.0 in
             rw (passed_up v d, m.1)
             (sym (framed_by (Ok n) (sym e ∙ g)
-            ∙ ap (λ b. when b (refused 23 0 0 t) (accepted n 0 (index s) t)) (lt-ltb (length t) (length (index s)) (omega (arith, long, less)))))
+            ∙ ap (λ b. when b (refused 23 0 0 t) (accepted n 0 (index s) t)) (lt-ltb (length t) (length (index s)) (omega (arith, long e g, less)))))
 
         module _ {w : _} (h : q ≡ Ok w) where
           fits : n ≤ length t / 4
@@ -85,7 +85,7 @@ module _ (s t : List ℕ) where
 
           -- the index has room
           pub room_there : 0 + length (rows (forest Top s 0) 0 0) ≤ length t
-          room_there = omega (arith, long, fits)
+          room_there = omega (arith, long e g, fits)
 
           -- 0
           pub good_index : (u : List ℕ) → u ≡ sets t 0 (rows (forest Top s 0) 0 0) → Permits index_outcome s t (indexed (Ok n)) u

@@ -1,11 +1,11 @@
 -- Laws of the index: how long it is, and how it is written box by box.
-use mathlib.Core.Path.{◌≡◌, refl, sym, ap, ◌∙◌}
+use mathlib.Core.Path.{◌≡◌, refl, sym, ap, ◌∙◌, subst}
 use mathlib.Core.List.{List, [], ◌∷◌, ◌++◌}
 use mathlib.Core.Bool.{Bool, true, false}
 use Prim.Native.Nat.{ℕ, suc, ◌+◌, ◌*◌, ◌≤◌}
-use native.Mathlib.Numerals.{add-four}
+use native.Mathlib.Numerals.{add-one, add-two, add-three, add-four}
 use native.Mathlib.Omega.{arith}
-use lib.ListN.{length, length-append}
+use lib.ListN.{length, set, length-append}
 use lib.Seq.{sets}
 use lib.Dec.{leb}
 use Rattle.numbers.specs.Numbers.{when}
@@ -18,9 +18,14 @@ use Rattle.rules.specs.declared.Path.{Path}
 use Rattle.rules.specs.declared.Look.{Look}
 use Rattle.rules.specs.declared.Look.TheVariants.{Nothing, Short, Small, Beyond, Good}
 use Rattle.rules.specs.Rules.{Framing, unframed}
-use Rattle.std.specs.Prelude.{Some, Ok, Err}
+use Rattle.std.specs.Prelude.{Option, Some, Ok, Err}
+use Rattle.framing.specs.declared.Wrote.{Wrote}
 use Rattle.framing.specs.Steps.{Writes}
 use Rattle.framing.proofs.Steps.{box_at}
+
+-- four stores
+pub sets_four : (t : List ℕ) (i a b c d : ℕ) → set (set (set (set t i a) (i + 1) b) (i + 2) c) (i + 3) d ≡ sets t i (a ∷ b ∷ c ∷ d ∷ [])
+sets_four t i a b c d = rw (add-one i, add-two i, add-three i)
 
 -- four numbers a box: what is framed with n boxes before it and m after it has m - n of them
 pub rows_length : (f : Forest) (base n d m : ℕ) → framing f base n ≡ Ok m → 4 * n + length (rows f base d) ≡ 4 * m
@@ -45,6 +50,12 @@ rows_length (node x i r) base n d m e = by (leb box_limit n) (framing i inner (n
     by true f p e u v = never (cc)
     by false (Ok k) p e u v = omega (arith, u k p, v k e, length-append (rows i inner (d + 1)) (rows r base d))
     by false (Err b) p e u v = never (cc)
+
+-- a writing whose variant is known
+pub known :
+    {r q : Option Wrote} (s : List ℕ) (at : ℕ) (path : Path) (base d row : ℕ) (t u : List ℕ) → r ≡ q →
+    Writes r s at path base d row t u → Writes q s at path base d row t u
+known s at path base d row t u e h = subst (λ (x : Option Wrote). Writes x s at path base d row t u) e h
 
 module _ (path : Path) (s : List ℕ) (at base d : ℕ) where
   -- where no box is framed there is nothing to write

@@ -66,6 +66,9 @@ module _ (path : Path) (s : List ℕ) (at base n : ℕ) where
   unfolding framing
   none e = (ap (λ f. framing f base n) (forest_nothing path s at e), boxes_nothing s at e)
 
+  pub at_end : length s ≤ at → (framing (forest path s at) base n ≡ Ok n) × (boxes s at ≡ [])
+  at_end h = none (look_nothing s at h)
+
   -- 5 is tried first where bytes remain
   pub at_limit : at < length s → box_limit ≤ n → framing (forest path s at) base n ≡ unframed 5 (base + at)
   unfolding framing rule5

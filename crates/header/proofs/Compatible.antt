@@ -27,6 +27,10 @@ abbrev pub NoneBefore : List ℕ → ℕ → List ℕ → Type 0
 NoneBefore f h rest = (i : ℕ) × (rest ≡ drop (h + 8 + 4 * i) f) × (branded f i ≡ false)
 
 module _ (f : List ℕ) (h : ℕ) (w : WholeBox f h) where
+  pub none_yet : branded f 0 ≡ false
+  unfolding branded
+  none_yet = refl
+
   pub none_before : {rest : List ℕ} → rest ≡ drop (h + 8) f → NoneBefore f h rest
   unfolding branded
   none_before e = (0, e ∙ ap (λ (n : ℕ). drop n f) (omega arith), refl)

@@ -6,7 +6,7 @@ use Prim.Native.Nat.{ℕ, ◌+◌, ◌-◌, ◌≤◌}
 use native.Mathlib.Omega.{arith}
 use lib.Dec.{eqb}
 use borrow.Author.Tests.{leb-true, eqb-true, eqb-false}
-use Rattle.rules.specs.Fields.{Form, plain, at_least, version, field, timed, has_form, body}
+use Rattle.rules.specs.Fields.{Form, either, plain, at_least, version, field, timed, has_form, body}
 use Rattle.rules.specs.Rules.{breaks}
 use Rattle.std.specs.Prelude.{Option, None, Some, Ok}
 use Rattle.rules.specs.declared.Defaults.{Defaults}
@@ -28,6 +28,17 @@ module _ (w : Form) (m : List ℕ) (at : ℕ) {r : Bool} (h : r ≡ has_form w m
   pub bad : r ≡ false → body 8 w m at ≡ breaks 8 0 at
   unfolding body
   bad e = must_false 8 at (sym h ∙ e)
+
+-- a body of two versions
+module _ (m : List ℕ) (b : Spot) (a d : ℕ) {v : Option Version} (h : SaysVersion v m b a d) where
+  pub as_zero : v ≡ Some Version.Zero → (body 8 (either a d) m b.at ≡ Ok tt) × (version m b.at ≡ 0) × (b.size + 8 ≡ b.head + a)
+  as_zero e = let k : SaysVersion (Some Version.Zero) m b a d = rw e at h in (good_body _ _ _ refl k.0, k.1, k.2)
+
+  pub as_one : v ≡ Some Version.One → (body 8 (either a d) m b.at ≡ Ok tt) × (version m b.at ≡ 1) × (b.size + 8 ≡ b.head + d)
+  as_one e = let k : SaysVersion (Some Version.One) m b a d = rw e at h in (good_body _ _ _ refl k.0, k.1, k.2)
+
+  pub as_wrong : v ≡ None → body 8 (either a d) m b.at ≡ breaks 8 0 b.at
+  as_wrong e = let k : SaysVersion None m b a d = rw e at h in bad _ _ _ refl k
 
 -- the number behind its two times
 module _ (m : List ℕ) (at : ℕ) {x : ℕ} where

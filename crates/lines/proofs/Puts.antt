@@ -1,10 +1,11 @@
 -- Laws of what is put behind one another into a buffer.
 use mathlib.Core.Path.{◌≡◌, sym, ap, ◌∙◌}
-use mathlib.Core.List.{List, ◌++◌}
-use Prim.Native.Nat.{ℕ, ◌+◌, ◌≤◌}
+use mathlib.Core.List.{List, [], ◌∷◌, ◌++◌}
+use Prim.Native.Nat.{ℕ, ◌+◌, ◌≤◌, ◌<◌}
+use native.Mathlib.Numerals.{add-one}
 use native.Mathlib.Omega.{arith}
-use lib.ListN.{length, take, drop, length-append}
-use lib.Seq.{sets, sets-eq, length-sets, length-take-le, take-append_seam}
+use lib.ListN.{length, take, drop, get_or, set, length-append}
+use lib.Seq.{sets, sets-eq, length-sets, length-take-le, take_all, take-suc, take-append_seam}
 use Rattle.rules.proofs.Laws.{sets_append}
 use Rattle.lines.specs.Puts.{Put, Line}
 
@@ -38,3 +39,22 @@ line_is {l} {xs} p = rw (p.size, p.starts) (take-append_seam xs (drop (length xs
 -- a line leaves one possible length and one possible buffer
 pub line_unique : {l xs : List ℕ} {n k : ℕ} {m o : List ℕ} → Line xs l n m → Line xs l k o → (n ≡ k) × (m ≡ o)
 line_unique p q = (p.size ∙ sym q.size, p.starts ∙ sym q.starts)
+
+-- one more byte of a text
+pub byte_more : (l : List ℕ) (at : ℕ) (xs : List ℕ) (i : ℕ) (m : List ℕ) → i < length xs → m ≡ sets l at (take i xs)
+    → set m (at + i) (get_or xs i 0) ≡ sets l at (take (i + 1) xs)
+byte_more l at xs i m h e =
+    let front : length (take i xs) ≡ i = length-take-le i xs (omega arith) in
+    let next : take (i + 1) xs ≡ take i xs ++ (get_or xs i 0 ∷ []) = rw add-one (take-suc xs i 0 h) in
+    ap (λ (k : List ℕ). set k (at + i) (get_or xs i 0)) e
+    ∙ ap (λ (k : ℕ). set (sets l at (take i xs)) (at + k) (get_or xs i 0)) (sym front)
+    ∙ sym (sets_append l at (take i xs) (get_or xs i 0 ∷ []))
+    ∙ ap (sets l at) (sym next)
+
+-- a whole text
+pub whole_text : (l : List ℕ) (at : ℕ) (xs : List ℕ) (i : ℕ) (m : List ℕ) → i ≤ length xs → length xs ≤ i → m ≡ sets l at (take i xs) → Put l at xs (at + i) m
+whole_text l at xs i m h g e =
+    record {
+      next = omega arith;
+      now_is = e ∙ ap (sets l at) (take_all i xs g);
+    }

@@ -1,12 +1,14 @@
--- Laws of numbers, put one a line.
+-- Laws of numbers, and of a table's, put one a line.
 use mathlib.Core.Path.{◌≡◌, refl, sym, ap, subst, ◌∙◌}
 use mathlib.Core.List.{List, [], ◌∷◌, ◌++◌, append_assoc, append-nil}
-use Prim.Native.Nat.{ℕ, ◌+◌, ◌<◌}
+use Prim.Native.Nat.{ℕ, ◌+◌, ◌≤◌, ◌<◌}
+use native.Mathlib.Nat.{le_antisymm}
 use native.Mathlib.Numerals.{add-one}
 use native.Mathlib.Omega.{arith}
 use lib.ListN.{length, take, get_or}
-use lib.Seq.{take-suc}
+use lib.Seq.{take_all, take-suc}
 use Rattle.lines.specs.Lines.{tick_line, tick_lines}
+use Rattle.lines.specs.Puts.{Put}
 use Rattle.lines.specs.Texts.{Puts}
 use Rattle.lines.specs.declared.Text.{Text}
 use Rattle.lines.proofs.Texts.{then}
@@ -35,3 +37,15 @@ none s = record { same = refl; put = record { next = omega arith; now_is = refl 
 pub next : (t : List ℕ) (k : ℕ) {s u v : Text} → k < length t → Puts s (tick_lines (take k t)) u → Puts u (tick_line (get_or t k 0)) v
     → Puts s (tick_lines (take (k + 1) t)) v
 next t k {s} {u} {v} h p q = subst (λ (xs : List ℕ). Puts s xs v) (one_more t k h) (then p q)
+
+-- the numbers before k of a table are put at a place
+abbrev pub TicksPut : List ℕ → ℕ → List ℕ → ℕ → ℕ → List ℕ → Type 0
+TicksPut t k l at n m = Put l at (tick_lines (take k t)) n m
+
+-- all of those before j: that many, or as many as the table has
+pub up_to : (t : List ℕ) (k j : ℕ) {l m : List ℕ} {at n : ℕ} → k ≤ j → j ≤ k → TicksPut t k l at n m → TicksPut t j l at n m
+up_to t k j {l} {m} {at} {n} h g p = subst (λ (i : ℕ). TicksPut t i l at n m) (le_antisymm h g) p
+
+pub every_tick : (t : List ℕ) (k j : ℕ) {l m : List ℕ} {at n : ℕ} → k ≤ j → length t ≤ k → TicksPut t k l at n m → TicksPut t j l at n m
+every_tick t k j {l} {m} {at} {n} h g p =
+    subst (λ (xs : List ℕ). Put l at (tick_lines xs) n m) (take_all k t g ∙ sym (take_all j t (omega arith))) p

@@ -1,12 +1,16 @@
 -- Laws of the readers, which callers cite: the readers over a part of a list.
-use mathlib.Core.Path.{◌≡◌, ap, ◌∙◌}
+use mathlib.Core.Path.{◌≡◌, sym, ap, ◌∙◌}
 use mathlib.Core.List.{List}
 use Prim.Native.Nat.{ℕ, ◌+◌, ◌≤◌}
 use native.Mathlib.Omega.{arith}
-use lib.ListN.{take, drop}
+use lib.ListN.{length, take, drop, get_or-eq_default}
 use lib.Seq.{get_or-drop, get_or-take}
 use Rattle.numbers.specs.Numbers.{byte}
 pub use Rattle.numbers.specs.Reads.{Reads, reads1, reads2, reads3, reads4, reads8}
+
+-- a byte past the end is 0
+pub past : (s : List ℕ) (i : ℕ) → length s ≤ i → 0 ≡ byte s i
+past s i h = sym (get_or-eq_default s 0 h)
 
 -- a byte some places on, counted either way
 pub on : (s : List ℕ) (i n k : ℕ) → byte s (i + (n + k)) ≡ byte s (i + n + k)

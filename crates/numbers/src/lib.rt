@@ -41,14 +41,29 @@ pub trait BigEndian: Sized {
     ghost reads: { Reads WIDTH number };
 }
 
-// The number that some bytes begin, the others 0.
+// The byte at a place, 0 past the end.
+fn byte_or_zero(bytes: &[u8], i: usize) -> u8
+    ensures { result ≡ byte bytes.now i }
+{
+    bytes.get(i).copied().unwrap_or(0)
+}
+
+// The number that some bytes begin, the others 0. Byte by byte: `copy_from_slice` calls `memcpy`, and the library calls nothing.
 #[cold]
 fn padded<N: BigEndian>(bytes: &[u8]) -> N
     requires { length bytes.now ≤ N.WIDTH }
     ensures { N.value result ≡ N.number bytes.now 0 }
 {
-    let mut all = [0; 8];
-    all[..bytes.len()].copy_from_slice(bytes);
+    let all = [
+        byte_or_zero(bytes, 0),
+        byte_or_zero(bytes, 1),
+        byte_or_zero(bytes, 2),
+        byte_or_zero(bytes, 3),
+        byte_or_zero(bytes, 4),
+        byte_or_zero(bytes, 5),
+        byte_or_zero(bytes, 6),
+        byte_or_zero(bytes, 7),
+    ];
     N::near(&all, 0)
 }
 

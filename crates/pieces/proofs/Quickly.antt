@@ -241,11 +241,20 @@ module _ (ns ns' piece : List ℕ) (a total : ℕ) (moved : state_of ns' ≡ mov
       goes_feeds ns ns' head kept piece head kept' a total moved m.sum
       (λ c t n. rw (m.phase, e, w) (keeps_on c t n head kept piece (get_or ns 1 0) l o h))
 
--- numbers that are moved on in the phase of a box that passes by, where its bytes are counted alone
+-- numbers that are moved on, where the piece changes no more than its phase lets it
 pub quick_aside : (ns ns' head kept piece head' kept' : List ℕ) (a total : ℕ) → state_of ns' ≡ moved_on ns a total → total ≡ get_or ns 3 0 + length piece
+    → length head ≡ 16 → length kept ≡ gather_limit
     → CountsAside (Some a) (phase_of (get_or ns 0 0) (get_or ns 1 0) (get_or ns 2 0)) head kept piece head' kept'
     → QuickAside true ns head kept piece ns' head' kept'
 unfolding phase_of
-quick_aside ns ns' head kept piece head' kept' a total moved s g t =
-    let k = rw t at g in
-    (λ h d. passed_feeds ns ns' piece a total moved h d (record { phase = t; sum = s }) k.0 k.1, k.2, k.3)
+quick_aside ns ns' head kept piece head' kept' a total moved s lh lk g = (
+  λ t.
+      let k = rw t at g in
+      (λ h d. passed_feeds ns ns' piece a total moved h d (record { phase = t; sum = s }) k.0 k.1, k.2, k.3),
+  λ t.
+      let k = rw t at g in
+      (λ h. kept_feeds ns ns' piece a total moved h kept kept' (record { phase = t; sum = s }) lk k.0 k.1 k.2 k.3, k.4),
+  λ t.
+      let k = rw t at g in
+      (λ d. headed_feeds ns ns' piece a total moved head d head' (record { phase = t; sum = s }) lh k.0 k.1 k.2, k.3),
+)

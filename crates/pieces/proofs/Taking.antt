@@ -61,7 +61,7 @@ module _ {c : Course} {total n : ℕ} {head kept more : List ℕ} where
       }
 
   -- all of them pass by, and more are left
-  passed_some : {l p : ℕ} → Follows (Skip l p) c total n head kept more → length more < l
+  pub passed_some : {l p : ℕ} → Follows (Skip l p) c total n head kept more → length more < l
       → TakesSome (Skip l p) c total n head kept more
       (record { state = state_by (Skip (l - length more) p) c (total + length more) n; used = length more }) head kept
   unfolding comes_by sound_phase
@@ -93,7 +93,7 @@ module _ {c : Course} {total n : ℕ} {head kept more : List ℕ} where
           rw (drop-length more, test, rest_of, sum)
 
   -- the last of the box pass by
-  passed_last : {l p : ℕ} → Follows (Skip l p) c total n head kept more → l ≤ length more
+  pub passed_last : {l p : ℕ} → Follows (Skip l p) c total n head kept more → l ≤ length more
       → TakesSome (Skip l p) c total n head kept more (record { state = state_by (Head 0) c (total + l) n; used = l }) head kept
   unfolding comes_by
   passed_last {l} {p} f h =

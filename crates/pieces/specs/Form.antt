@@ -69,9 +69,14 @@ QuickHeaded r ns head piece ns' head' = (kept : List ℕ) → QuickFrom r ns hea
 abbrev pub QuickKept : Bool → List ℕ → List ℕ → List ℕ → List ℕ → List ℕ → Type 0
 QuickKept r ns kept piece ns' kept' = (head : List ℕ) → QuickFrom r ns head kept piece ns' head kept'
 
--- in the phase of a box that passes by only the numbers change, whatever the header's bytes and the buffer are: no byte of a piece is kept
+-- the rest of the memory stays as it is and is not asked for: in the phase of a box that passes by only the numbers change, whatever the header's bytes and
+-- the buffer are (no byte of a piece is kept); in that of a gathered box the buffer beside them, whatever the header's bytes are; in that of a header's
+-- first 8 bytes these, whatever the buffer is
 abbrev pub QuickAside : Bool → List ℕ → List ℕ → List ℕ → List ℕ → List ℕ → List ℕ → List ℕ → Type 0
-QuickAside r ns head kept piece ns' head' kept' = get_or ns 0 0 ≡ 3 → QuickPassed r ns piece ns' × (head' ≡ head) × (kept' ≡ kept)
+QuickAside r ns head kept piece ns' head' kept' =
+    (get_or ns 0 0 ≡ 3 → QuickPassed r ns piece ns' × (head' ≡ head) × (kept' ≡ kept))
+    × (get_or ns 0 0 ≡ 2 → QuickKept r ns kept piece ns' kept' × (head' ≡ head))
+    × (get_or ns 0 0 ≡ 1 → QuickHeaded r ns head piece ns' head' × (kept' ≡ kept))
 
 -- numbers in the phase of a number, and the bytes so far with a piece's
 pub record Amid (tag : ℕ) (ns piece : List ℕ) (total : ℕ) : Type 0 where

@@ -1,5 +1,6 @@
 -- What the functions of one step ask and say, over the state as it is decoded.
 use Rattle.std.specs.Prelude.{ℕ, ◌+◌, ◌-◌, ◌≤◌, ◌<◌, true, false, ◌&&◌, List, [], ◌++◌, ◌≡◌, length, take, drop, ltb, Option, None, Some, Ok, Err}
+use Rattle.std.proofs.Math.Seq.{paste}
 use Rattle.numbers.specs.Numbers.{when}
 use Rattle.rules.specs.Limits.{byte_limit, box_limit, gather_limit}
 use Rattle.rules.specs.Boxes.{head_of, size_of, kind_of}
@@ -11,7 +12,7 @@ use Rattle.rules.specs.declared.Misframed.{Misframed}
 use Rattle.rules.specs.declared.Spot.{Spot}
 use Rattle.track.specs.Course.{box_of}
 use Rattle.pieces.specs.Rest.{rest}
-use Rattle.pieces.specs.State.{sound, sound_phase, sound_course, halved, kept_moof, comes_by, comes_to}
+use Rattle.pieces.specs.State.{sound, sound_phase, sound_course, open_box, halved, kept_moof, comes_by, comes_to}
 use Rattle.pieces.specs.declared.state.Phase.{Phase}
 use Rattle.pieces.specs.declared.state.Phase.TheVariants.{Unstarted, Head, Keep, Skip, Stopped}
 use Rattle.pieces.specs.declared.state.Progress.{Progress}
@@ -185,12 +186,15 @@ abbrev pub GoesOn : Option ℕ → Phase → List ℕ → List ℕ → List ℕ 
 GoesOn (Some a) p head kept piece head' kept' = (c : Course) (total n : ℕ) → Goes p (first_anew p a) c total n head kept piece head' kept'
 GoesOn None p head kept piece head' kept' = (head' ≡ head) × (kept' ≡ kept)
 
--- a piece in a box that passes by: as many bytes fewer are left, and none is kept, the memory stays as it was
+-- what a piece that ends in the middle changes, and that the rest of the memory stays as it was: of a box that passes by as many bytes fewer are left, and
+-- none is kept; of a gathered box, of which its header and more are there, they are kept in the buffer; of a header's first 8 beside it
 abbrev pub CountsAside : Option ℕ → Phase → List ℕ → List ℕ → List ℕ → List ℕ → List ℕ → Type 0
 CountsAside None p head kept piece head' kept' = Unit {0}
 CountsAside (Some a) Unstarted head kept piece head' kept' = Unit {0}
-CountsAside (Some a) (Head i) head kept piece head' kept' = Unit {0}
-CountsAside (Some a) (Keep i) head kept piece head' kept' = Unit {0}
+CountsAside (Some a) (Head i) head kept piece head' kept' =
+    (i + length piece < 8) × (a ≡ i + length piece) × (head' ≡ paste head i piece (length piece)) × (kept' ≡ kept)
+CountsAside (Some a) (Keep i) head kept piece head' kept' =
+    (open_box kept i ≡ true) × (length piece < size_of kept 0 - i) × (a ≡ i + length piece) × (kept' ≡ paste kept i piece (length piece)) × (head' ≡ head)
 CountsAside (Some a) (Skip l p) head kept piece head' kept' =
     (length piece < l) × (a ≡ l - length piece) × (head' ≡ head) × (kept' ≡ kept)
 CountsAside (Some a) (Stopped e) head kept piece head' kept' = Unit {0}

@@ -1,5 +1,5 @@
 -- Laws of boxes in bytes: what one header tells, the forest and the run of siblings box by box. Fuel is dealt with here; beside it only
--- two inductions over a forest, in Walk and in Misframed, see it.
+-- two inductions over a forest, in Walk and in Unframed, see it.
 use mathlib.Core.Path.{◌≡◌, refl, sym, ap, ◌∙◌}
 use mathlib.Core.List.{List, [], ◌∷◌}
 use mathlib.Core.Bool.{Bool, true, false}
@@ -227,6 +227,15 @@ boxes_by s at (Good h z k) e = ap tops (forest_by Flat s at (Good h z k) e)
 module _ (s : List ℕ) (at : ℕ) where
   pub boxes_nothing : look s at ≡ Nothing → boxes s at ≡ []
   boxes_nothing = boxes_by s at Nothing
+
+  pub boxes_short : look s at ≡ Short → boxes s at ≡ []
+  boxes_short = boxes_by s at Short
+
+  pub boxes_small : look s at ≡ Small → boxes s at ≡ []
+  boxes_small = boxes_by s at Small
+
+  pub boxes_beyond : look s at ≡ Beyond → boxes s at ≡ []
+  boxes_beyond = boxes_by s at Beyond
 
   pub boxes_box : (h z k : ℕ) → look s at ≡ Good h z k → boxes s at ≡ record { at = at; inner = h; size = z; kind = k } ∷ boxes s (at + z)
   boxes_box h z k = boxes_by s at (Good h z k)

@@ -33,10 +33,23 @@ abbrev pub begun : (ℕ → Bool) → ℕ → List ℕ → Fragment
 begun sync x xs = record { first = x; others = continuing sync xs }
 
 module _ (sync : ℕ → Bool) where
-  -- a sync chunk begins a fragment
+  -- a sync chunk begins a fragment and continues none
   pub begins_one_lem : (x : ℕ) (xs : List ℕ) → sync x ≡ true → begun_among sync (x ∷ xs) ≡ begun sync x xs ∷ begun_among sync xs
   unfolding begun_among
   begins_one_lem x xs e = rw e
+
+  pub continues_none : (x : ℕ) (xs : List ℕ) → sync x ≡ true → continuing sync (x ∷ xs) ≡ []
+  unfolding continuing
+  continues_none x xs e = rw e
+
+  -- a non-sync chunk begins none and continues one
+  pub begins_none : (x : ℕ) (xs : List ℕ) → sync x ≡ false → begun_among sync (x ∷ xs) ≡ begun_among sync xs
+  unfolding begun_among
+  begins_none x xs e = rw e
+
+  pub continues_one : (x : ℕ) (xs : List ℕ) → sync x ≡ false → continuing sync (x ∷ xs) ≡ x ∷ continuing sync xs
+  unfolding continuing
+  continues_one x xs e = rw e
 
   -- a track's first chunk that is sync begins a fragment as any other does
   pub opens_alike : (x : ℕ) (xs : List ℕ) → sync x ≡ true → in_fragments sync (x ∷ xs) ≡ begun_among sync (x ∷ xs)

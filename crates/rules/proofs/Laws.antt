@@ -1,6 +1,6 @@
 -- General laws: tests joined, and elements of lists by their number.
 use mathlib.Core.Path.{◌≡◌, refl, sym, ap, subst, ◌∙◌}
-use mathlib.Core.Bool.{Bool, true, ◌&&◌}
+use mathlib.Core.Bool.{Bool, true, false, ◌&&◌, ◌||◌, true≢false}
 use mathlib.Core.Option.{Option, none, some, none-ne-some, some-injective}
 use mathlib.Core.List.{List, [], ◌∷◌, ◌++◌, map, nil≢cons, head-eq_of_cons-eq, tail-eq_of_cons-eq}
 use Prim.Native.Nat.{ℕ, zero, suc, ◌+◌, ◌≤◌, ◌<◌}
@@ -10,6 +10,11 @@ use lib.ListN.{length, get_elem?, drop}
 use lib.Seq.{sets}
 use Rattle.std.proofs.lemmas.Bool.{and_parts}
 use Rattle.rules.specs.Plans.{All}
+
+-- the second of two tests
+pub or_second : (a b : Bool) → a ≡ false → (a || b) ≡ true → b ≡ true
+or_second true b h k = absurd (true≢false h)
+or_second false b h k = k
 
 -- four tests joined: they hold where each does, and each does where they hold
 module _ (a b c d : Bool) where

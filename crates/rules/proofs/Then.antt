@@ -111,3 +111,9 @@ pub moved_by_0 : (r : Rule) → moved 0 r ≡ r
 unfolding moved
 moved_by_0 (Ok u) = refl
 moved_by_0 (Err e) = ap (breaks e.number e.track) (omega arith)
+
+-- a test moved is the test at the place moved
+pub moved_must : (b : ℕ) (t : Bool) (n p : ℕ) → moved b (must t n p) ≡ must t n (b + p)
+unfolding moved must
+moved_must b true n p = refl
+moved_must b false n p = refl

@@ -1,9 +1,9 @@
 -- The rules of one track by itself name none: where they break, they break with track 0. How that passes through the ways in which they are put together.
-use mathlib.Core.Path.{◌≡◌, refl}
+use mathlib.Core.Path.{◌≡◌, refl, ap, subst, ◌∙◌}
 use mathlib.Core.Bool.{Bool, true, false}
 use mathlib.Core.List.{List, [], ◌∷◌}
-use Prim.Native.Nat.{ℕ}
-use Rattle.rules.specs.Rules.{◌then◌, must, Rule, breaks}
+use Prim.Native.Nat.{ℕ, ◌≤◌}
+use Rattle.rules.specs.Rules.{◌then◌, must, PlacedUpTo, Rule, breaks}
 use Rattle.rules.specs.Boxes.{kids}
 use Rattle.rules.specs.Counts.{seen, one_of, at_most_one_of, some_of, counted, counts}
 use Rattle.rules.specs.Chunk.{rule16runs, rule16, rule17, rule18, rule19, rule21, rule22runs, rule22}
@@ -30,6 +30,10 @@ module _ (P : Rule → Type 0) where
   unfolding must
   must_is true n p h k = h
   must_is false n p h k = k
+
+-- a broken one, at a place up to n
+pub breaks_at_0 : (n : ℕ) {r : Rule} {k t p : ℕ} → Untracked r → PlacedUpTo n r → r ≡ breaks k t p → (r ≡ breaks k 0 p) × (p ≤ n)
+breaks_at_0 n {r} {k} {t} {p} u low e = (e ∙ ap (λ (i : ℕ). breaks k i p) (subst Untracked e u), subst (PlacedUpTo n) e low)
 
 -- a test, and one before other rules
 test : (b : Bool) (n p : ℕ) → Untracked (must b n p)

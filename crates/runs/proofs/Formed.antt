@@ -1,5 +1,5 @@
 -- Laws of rule 15: what a body's form comes to, and that of a run.
-use Rattle.std.proofs.Common.{◌≡◌, ℕ, ◌+◌, ◌-◌, ◌*◌, ◌<◌, ◌≤◌, true, false, Some, None, List, refl, arith}
+use Rattle.std.proofs.Common.{◌≡◌, ℕ, ◌+◌, ◌-◌, ◌*◌, ◌<◌, ◌≤◌, true, false, Some, None, List, refl, mul-le-mul, arith}
 use Rattle.rules.specs.Fields.{Form, box_flags, field, either, has_form, body}
 use Rattle.rules.specs.Chunk.{run_head, stride, count_of, run_size, run_form}
 use Rattle.rules.specs.Rules.{breaks}
@@ -24,6 +24,10 @@ module _ (f : Form) (m : List ℕ) (at : ℕ) where
 pub head_low : (f : ℕ) → 8 ≤ run_head f
 unfolding run_head
 head_low f = omega arith
+
+-- how large the samples' fields of a run get
+pub own_fits : (s n : ℕ) → s ≤ 16 → n ≤ 4294967295 → s * n ≤ 68719476720
+own_fits s n h k = omega (arith, mul-le-mul {n₁ = s} {m₁ = n} {n₂ = 16} {m₂ = 4294967295} h k)
 
 module _ (m : List ℕ) (b : Spot) (st : Stands m b) where
   -- a run that has no room for its flags and its count

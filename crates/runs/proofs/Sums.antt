@@ -1,5 +1,5 @@
 -- Laws of sums over samples: one more, equal terms, some and some more, two columns for one, a constant term, and places a step apart.
-use Rattle.std.proofs.Common.{◌≡◌, ℕ, zero, suc, ◌+◌, ◌*◌, ◌-◌, ◌/◌, ◌%◌, ◌<◌, ◌≤◌, min, Bool, true, false, eqb, List, [], ◌++◌, length, take, drop, sym, refl, ap, ◌∙◌, inl, inr, add-zero, add-suc, suc-mul, suc-add, mul-le-mul_left, mul-zero, zero-mul, mul-suc, mul-add, mul_comm, mul-div_cancel, add-one, arith, append-nil, get_or-take, get_or-drop}
+use Rattle.std.proofs.Common.{◌≡◌, ℕ, zero, suc, ◌+◌, ◌*◌, ◌-◌, ◌/◌, ◌<◌, ◌≤◌, min, Bool, true, false, eqb, List, [], ◌++◌, length, take, drop, sym, refl, ap, ◌∙◌, inl, inr, add-zero, add-suc, suc-mul, suc-add, mul-le-mul_left, mul-zero, zero-mul, mul-suc, mul-add, mul_comm, mul-div_cancel, add-one, arith, append-nil, get_or-take, get_or-drop}
 use Rattle.std.proofs.Math.Nat.{add-mul-div_left, div-eq_of_lt, mul-div_cancel_left}
 use Rattle.std.proofs.lemmas.Bool.{cases_lt}
 use Rattle.std.proofs.lemmas.List.{get_or_append_left, get_or-append-add, length-append, length-drop, length-take-le, nil_from_length}
@@ -10,7 +10,7 @@ use Rattle.rules.specs.Rules.{◌then◌, must, Rule}
 use Rattle.rules.specs.declared.Defaults.{Defaults}
 use Rattle.rules.specs.declared.Spot.{Spot}
 use Rattle.rules.specs.Chunk.{bytes_for, run_head, stride, sample_at, duration_of, bytes_of, sum_to, run_duration, run_bytes, first_flags_of, is_sync, placed}
-use Rattle.runs.proofs.Flags.{stride_fours, stride_ticks, reach_size}
+use Rattle.runs.proofs.Flags.{stride_ticks, reach_size}
 use Rattle.runs.specs.Trun.{FilledRun}
 use Rattle.runs.specs.Runs.{SmallSums, AndSamples}
 use Rattle.runs.specs.declared.Span.{Span}
@@ -187,8 +187,8 @@ module _ (m : List ℕ) (d : Defaults) (r : Spot) (f n : ℕ) (p : FilledRun m r
         length-take-le _ (drop (r.at + r.head + k) m) (omega (arith, length-drop (r.at + r.head + k) m, p.stands.fits, fields_inside)) ∙ fields_size in
         rw l (mul-div_cancel_left n pos)
 
-    pub fields_few : (least : ℕ) → 0 < least → least ≤ stride f → step ≤ 16 → n ≤ sample_limit → FewRows least step fields × (step % 4 ≡ 0)
-    fields_few least pos low high few = ((rw apart low, high, rw (fields_count (omega (arith, pos, low, apart))) few), rw apart (stride_fours f))
+    pub fields_few : (least : ℕ) → 0 < least → least ≤ stride f → n ≤ sample_limit → FewRows least step fields
+    fields_few least pos low few = (rw apart low, rw (fields_count (omega (arith, pos, low, apart))) few)
 
     own : (at sum : ℕ) → at + 4 ≤ stride f → Summed (every_four fields at step) (length fields / step) sum → Summed (every_four m (r.at + r.head + k + at) step) n sum
     own at sum fits s =

@@ -1,23 +1,43 @@
 -- Laws of the walk over the runs: one run more, and the runs in a front of the `moof` box by box.
-use Rattle.std.proofs.Common.{◌≡◌, ℕ, ◌+◌, ◌≤◌, Bool, true, false, eqb, List, [], ◌∷◌, length, sym, refl, ap, ◌∙◌, subst, arith, eq-eqb, ne_eqb, eqb-true}
+use Rattle.std.proofs.Common.{◌≡◌, ℕ, ◌+◌, ◌<◌, ◌≤◌, Bool, true, false, eqb, leb, List, [], ◌∷◌, length, sym, refl, ap, ◌∙◌, subst, mul-le-mul_left, mul-zero, mul-suc, arith, eq-eqb, ne_eqb, eqb-true, leb-false, leb-true}
 use borrow.Author.Tests.{eqb-false}
 use Rattle.numbers.specs.Numbers.{when}
 use Rattle.rules.specs.Kinds.{trun}
+use Rattle.rules.specs.Limits.{sample_limit}
 use Rattle.rules.specs.Boxes.{boxes}
 use Rattle.rules.specs.Rules.{◌then◌, must, PlacedUpTo, Rule, breaks}
 use Rattle.rules.specs.Fields.{box_flags, body}
-use Rattle.rules.specs.Chunk.{count_of, run_form, rule15runs, not_both, rule16runs, samples_of, run_bytes, durations_of, bytes_in, first_flags_of, first_flags, is_sync, rule22runs}
+use Rattle.rules.specs.Chunk.{run_head, stride, count_of, run_form, rule15runs, not_both, rule16runs, samples_of, run_bytes, durations_of, bytes_in, first_flags_of, first_flags, is_sync, rule22runs}
 use Rattle.std.specs.Prelude.{Ok}
 use Rattle.rules.specs.declared.Defaults.{Defaults}
+use Rattle.rules.specs.declared.Spot.{Spot}
 use Rattle.rules.proofs.Forest.{places_end}
 use Rattle.rules.proofs.Then.{then_holds, then_breaks, then_assoc, then_first}
 use Rattle.rules.proofs.Untracked.{then_is, must_is}
 use Rattle.boxes.specs.Siblings.{FirstOf}
 use Rattle.boxes.specs.declared.Sibling.{Sibling}
 use Rattle.boxes.proofs.Walks.{first_hit, first_miss}
-use Rattle.runs.specs.Runs.{runs_at, Due, AndSamples, SpansAll, PassedRuns, Walked}
+use Rattle.runs.specs.Trun.{FilledRun}
+use Rattle.runs.specs.Runs.{runs_at, Due, SaysDue, AndSamples, SpansAll, PassedRuns, Walked}
 use Rattle.runs.specs.declared.Span.{Span}
 use Rattle.runs.specs.declared.Totals.{Totals}
+
+-- sums are asked for where the samples are few
+pub due_by : (want : Bool) (clash : Rule) (samples : ℕ) → want ≡ true → clash ≡ Ok tt → SaysDue (leb samples sample_limit) want clash samples
+due_by want clash samples w h =
+    let by : (t : Bool) → leb samples sample_limit ≡ t → SaysDue t want clash samples
+    = elim [
+      | true ↦ λ y. (w, h, leb-true samples sample_limit y)
+      | false ↦ λ y d. omega (arith, d.2, leb-false samples sample_limit y)
+    ] in
+    by (leb samples sample_limit) refl
+
+-- a run that is filled and has a sample: the first's fields stand in the run
+module _ (m : List ℕ) (r : Spot) (f n : ℕ) (p : FilledRun m r f n) where
+  pub one_inside : (n ≡ 0 → ⊥) → r.head + run_head f + stride f ≤ r.size
+  one_inside some =
+      let h : 0 < n = omega (arith, some) in
+      omega (arith, p.fills, mul-suc (stride f) 0, mul-zero (stride f), mul-le-mul_left (stride f) h)
 
 -- the first sample after a run more
 first_on :
@@ -77,9 +97,9 @@ module _ (m : List ℕ) (want : Bool) (d : Defaults) (from : ℕ) (all : List �
         place = rw told (placed_then (length m) t.clash ok 16 r w.passed.place low);
       }
 
-  -- where sums are not asked for
-  pub walked_out : (Due want clash (t.samples + n) → ⊥) → Walked m want d from all rest (record { clash = clash; samples = t.samples + n; span = t.span })
-  walked_out idle = record { passed = passed_on t.span; sums = λ e. absurd (idle e) }
+  -- where sums are not asked for, whatever stands for what the samples span
+  pub walked_out : (b : Span) → (Due want clash (t.samples + n) → ⊥) → Walked m want d from all rest (record { clash = clash; samples = t.samples + n; span = b })
+  walked_out b idle = record { passed = passed_on b; sums = λ e. absurd (idle e) }
 
   -- where they are
   module _ (due : Due want clash (t.samples + n)) (b : Span) (s : AndSamples m d from t.samples r n t.span b) where

@@ -14,9 +14,9 @@ pub record Summed (g : ℕ → ℕ) (n sum : ℕ) : Type 0 where
   pub total : sum ≡ sum_to g n
   pub small : sum ≤ 4294967295 * n
 
--- rows of a step of so many bytes at least, and of 16 at most, no more of them than a chunk has samples
+-- rows of a step of so many bytes at least, no more of them than a chunk has samples
 abbrev pub FewRows : ℕ → ℕ → List ℕ → Type 0
-FewRows least step rows = (least ≤ step) × (step ≤ 16) × (length rows / step ≤ sample_limit)
+FewRows least step rows = (least ≤ step) × (length rows / step ≤ sample_limit)
 
 -- the sums of rows a step apart: of the number that each begins with, and of the next
 pub record SumsRows (rows : List ℕ) (step : ℕ) (s : Sums) : Type 0 where

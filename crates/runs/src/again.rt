@@ -1,5 +1,5 @@
-// A second look at runs, whatever they hold: whether the first sample of all is a sync sample. Its readers stay beside those of the first look, no plainer as
-// one: the first look's ask that the bytes are there and read without a test.
+// A second look at runs, whatever they hold: whether the first sample of all is a sync sample. A run's first flags are read by the reader of the first look,
+// `Trun::first_flags`; the rest stays beside it, no plainer as one: the first look asks that a run's count is there and reads it without a test.
 ghost use Rattle.std.specs.Prelude.{◌≡◌, ◌≤◌, length, take};
 ghost use Rattle.rules.specs.Limits.{byte_limit};
 ghost use Rattle.rules.specs.Chunk.{first_flags, is_sync};

@@ -4,7 +4,7 @@
 // and every call of `fields` would take it apart again. `FilledRun` is no ghost field of `Trun` either: `again::first_sync` builds one of any bytes.
 #![tactic(auto)]
 
-ghost use Rattle.std.specs.Prelude.{◌≡◌, ◌+◌, ◌*◌, ◌≤◌, length, take};
+ghost use Rattle.std.specs.Prelude.{◌≡◌, ◌+◌, ◌*◌, ◌≤◌, true, length, take, Ok};
 ghost use Rattle.rules.specs.Limits.{byte_limit, sample_limit};
 ghost use Rattle.rules.specs.Fields.{box_flags};
 ghost use Rattle.rules.specs.Chunk.{run_head, stride, not_both, first_flags_of, is_sync, placed};
@@ -79,6 +79,19 @@ fn is_sync(flags: u32) -> bool
     !numbers::has(flags, 0x10000)
 }
 
+// What no samples span.
+fn no_span() -> Span
+    ensures { result ≡ record { ticks = 0; bytes = 0; lead = true; sync = true; tiled = Ok tt } }
+{
+    Span {
+        ticks: 0,
+        bytes: 0,
+        lead: true,
+        sync: true,
+        tiled: Ok(()),
+    }
+}
+
 // What samples span with those of one run more, after so many samples, where the bytes of all begin at a place.
 fn and_samples(m: &[u8], run: Trun, d: Defaults, from: u64, before: u64, a: Span) -> Span
     requires filled_run { FilledRun m.now run.spot run.flags run.count × (before + run.count ≤ sample_limit) × (from ≤ byte_limit + 16) }
@@ -118,15 +131,15 @@ fn and_run(
     };
     let clash = t.clash.and(rules::must(not_both(run.flags), 16, place));
     let samples = t.samples + run.count as u64;
-    let passed = t.span;
+    // from here on none are asked for; the span so far handed on would copy its unused bytes with every run, a quarter of a short run's time
     if !due(want, clash, samples) {
         return Ok(Totals {
             clash,
             samples,
-            span: passed,
+            span: no_span(),
         });
     }
-    let span = and_samples(m, run, d, from, t.samples, passed);
+    let span = and_samples(m, run, d, from, t.samples, t.span);
     Ok(Totals {
         clash,
         samples,
@@ -150,13 +163,7 @@ pub fn walk(
     let mut t = Totals {
         clash: Ok(()),
         samples: 0,
-        span: Span {
-            ticks: 0,
-            bytes: 0,
-            lead: true,
-            sync: true,
-            tiled: Ok(()),
-        },
+        span: no_span(),
     };
     for b in boxes::along(s, start) {
         if b.kind == TRUN {

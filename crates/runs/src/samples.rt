@@ -1,7 +1,7 @@
 // The samples of a run: their durations and sizes in all. From 8 rows on no number is turned around by itself: the first eight bytes of the rows are added up
 // as they stand, the second, fourth, sixth and eighth of them also by themselves, in 16 bits each, and what the bytes of each place come to is put in order
 // once for up to 256 rows. A column of numbers that stand side by side is taken as two.
-// `FewRows` stands in four contracts: no plainer in a struct of rows and step, which would be made for one call, and two of the four have the step as `STEP`.
+// `FewRows` stands in six contracts: no plainer in a struct of rows and step, which would be made for one call, and one of them has the step as `STEP`.
 ghost use Rattle.std.specs.Prelude.{◌≡◌, ◌+◌, ◌*◌, ◌/◌, ◌%◌, ◌≤◌, length};
 ghost use Rattle.rules.specs.Limits.{sample_limit};
 ghost use Rattle.rules.specs.Chunk.{duration_of, bytes_of};
@@ -97,7 +97,7 @@ fn few_rows(rows: &[u8], step: usize) -> Sums
 
 // The two sums of rows, block by block.
 fn many_rows<const STEP: usize>(rows: &[u8]) -> Sums
-    requires { FewRows 8 STEP rows.now }
+    requires { FewRows 8 STEP rows.now × (STEP ≤ 16) }
     ensures { SumsRows rows.now STEP result }
 {
     let mut ticks: u64 = 0;
@@ -110,28 +110,54 @@ fn many_rows<const STEP: usize>(rows: &[u8]) -> Sums
     Sums { ticks, bytes }
 }
 
-// The two sums of rows that begin with two numbers, of one of the three steps that a run of such rows can have.
-fn sum_rows(rows: &[u8], step: usize) -> Sums
-    requires { FewRows 8 step rows.now × (step % 4 ≡ 0) }
+// The two sums of rows, with the steps that a run can have written out: a loop with such a step takes several rows at once. By itself: put into `sum_rows` it
+// has each short run save registers for it.
+#[inline(never)]
+fn many_by_step(rows: &[u8], step: usize) -> Sums
+    requires { FewRows 8 step rows.now }
     ensures { SumsRows rows.now step result }
 {
-    if rows.len() < 8 * step {
-        return few_rows(rows, step);
-    }
     match step {
         8 => many_rows::<8>(rows),
         12 => many_rows::<12>(rows),
-        _ => many_rows::<16>(rows),
+        16 => many_rows::<16>(rows),
+        _ => few_rows(rows, step), // no run has another step
     }
+}
+
+// The two sums of rows that begin with two numbers.
+fn sum_rows(rows: &[u8], step: usize) -> Sums
+    requires { FewRows 8 step rows.now }
+    ensures { SumsRows rows.now step result }
+{
+    if rows.len() / 8 < step {
+        return few_rows(rows, step);
+    }
+    many_by_step(rows, step)
+}
+
+// The sum of the first number of each row, number by number.
+fn few_numbers(rows: &[u8], step: usize) -> u64
+    requires { FewRows 4 step rows.now }
+    ensures { Summed (every_four rows.now 0 step) (length rows.now / step) result }
+{
+    let mut sum: u64 = 0;
+    for row in rows.chunks_exact(step) {
+        sum += u32::near(row, 0) as u64;
+    }
+    sum
 }
 
 // The sum of the first number of each row.
 fn sum_column(rows: &[u8], step: usize) -> u64
-    requires { FewRows 4 step rows.now × (step % 4 ≡ 0) }
+    requires { FewRows 4 step rows.now }
     ensures { Summed (every_four rows.now 0 step) (length rows.now / step) result }
 {
-    if step != 4 {
+    if 8 <= step {
         return sum_rows(rows, step).ticks;
+    }
+    if step != 4 { // no run has such a step
+        return few_numbers(rows, step);
     }
     // rows of two numbers, and one more
     let n = rows.len() / 4;

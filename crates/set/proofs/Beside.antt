@@ -1,11 +1,12 @@
 -- Laws of rules 25 to 28: the boundaries side by side, and the rules in their order.
 use mathlib.Core.Path.{◌≡◌, refl, sym, ap, ap₂, subst, ◌∙◌}
 use mathlib.Core.List.{List, [], ◌∷◌}
+use mathlib.Core.Bool.{false}
 use Prim.Native.Nat.{ℕ, ◌≤◌}
 use native.Mathlib.Omega.{arith}
 use lib.ListN.{length}
 use lib.Dec.{eqb}
-use borrow.Author.Tests.{eqb-true}
+use borrow.Author.Tests.{ne_eqb, eqb-true}
 use Rattle.rules.specs.Rules.{◌then◌, must, Rule}
 use Rattle.rules.specs.Track.{header_of, chunks, fragments, first_moofs, fragment_count, timescale, end_at, last_end, end_list}
 use Rattle.rules.specs.Set.{handler, hdlr_at, mdhd_at, same, rule28, rule28_from, agrees}
@@ -18,7 +19,7 @@ use Rattle.rules.specs.declared.Refusal.{Refusal}
 use Rattle.rules.specs.declared.TrackFacts.{TrackFacts}
 use Rattle.rules.proofs.Sound.{accepted_keeps}
 use Rattle.rules.proofs.Walk.{some_chunk}
-use Rattle.rules.proofs.Then.{then_holds, then_breaks, then_last, must_holds}
+use Rattle.rules.proofs.Then.{then_holds, then_breaks, then_last, must_false, must_holds}
 use Rattle.track.specs.Course.{Known}
 use Rattle.track.specs.Cursor.{begun_from, NextAt, IsNextFragment}
 use Rattle.track.specs.declared.cursor.FragmentAt.{FragmentAt}
@@ -107,6 +108,10 @@ module _ (s₀ : List ℕ) {f₀ : TrackFacts} (s : List ℕ) {f : TrackFacts} {
         g.rule
         ∙ ap₂ (λ (x y : List ℕ). rule28_from last (written s₀ f₀.end x) (written s f.end y) y) c₀.places c.places
         ∙ ap₂ (λ (x y : ℕ). must (eqb y x) 28 p then rest28 s₀ f₀ s f q₀ q p) (sym c₀.start) (sym c.start)
+
+    pub beside_differs : (v ≡ v₀ → ⊥) → rule28 s₀ s ≡ must false 28 p
+    unfolding must
+    beside_differs e = beside_step ∙ then_breaks _ (must_false 28 p (ne_eqb v v₀ e))
 
     module _ {r : Rule} (m : r ≡ must (eqb v v₀) 28 p) where
       -- it is the same

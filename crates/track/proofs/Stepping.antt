@@ -200,7 +200,7 @@ brings (Halved j m) k e i o s = (o.high, o.holds)
 brings (Paired j) k e i o s = tt
 
 -- where no other box may stand, every box stops the course
-stops_strict : (g : Stage) (k w : ℕ) (n : Stage) → step6 g k ≡ when (eqb k w) (Some n) None → (eqb k w ≡ true → ordered k ≡ true)
+pub stops_strict : (g : Stage) (k w : ℕ) (n : Stage) → step6 g k ≡ when (eqb k w) (Some n) None → (eqb k w ≡ true → ordered k ≡ true)
     → (ordered k ≡ true) ⊎ (step6 g k ≡ None)
 stops_strict g k w n q f = by (eqb k w) refl q
   where
@@ -209,7 +209,7 @@ stops_strict g k w n q f = by (eqb k w) refl q
     by false e r = inr r
 
 -- where others may stand, a box that the order doesn't speak of is passed over
-passes_loose : (k : ℕ) (o : Bool) → o ≡ ordered k → (c : Reached) (w : ℕ) (n : Stage) → step6 (stage_of c) k ≡ awaits w n (stage_of c) k
+pub passes_loose : (k : ℕ) (o : Bool) → o ≡ ordered k → (c : Reached) (w : ℕ) (n : Stage) → step6 (stage_of c) k ≡ awaits w n (stage_of c) k
     → (ordered k ≡ false → eqb k w ≡ false) → SaysPasses (not o) (Ok c) k
 unfolding and_box awaits
 passes_loose k true e c w n q f = inl (sym e)

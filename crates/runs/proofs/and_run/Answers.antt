@@ -12,7 +12,7 @@ returns-then-not-due c =
     let idle = rw c.if-not-due.true at c.due.ensures in (
       λ all rest w.
           walked_out a.m.now a.want a.d a.from all a.r.at rest a.t w t.0 (omega (arith, t.2.stands.fits)) _ _ t.2.flags t.2.count
-          c.not_both.result c.not_both.ensures _ (c.and-clash.ensures ∙ ap (λ (q : Rule). a.t.clash then q) c.must.ensures) idle,
+          c.not_both.result c.not_both.ensures _ (c.and-clash.ensures ∙ ap (λ (q : Rule). a.t.clash then q) c.must.ensures) _ idle,
       omega arith,
     )
 

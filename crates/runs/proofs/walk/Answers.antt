@@ -13,7 +13,7 @@ loop-b-init c = let a = c.args in
     let i = c.into_iter-b-iterator.ensures.into_iter_gives in
     let n = c.along-b-items.ensures in (
       ap (λ (x : SiblingBoxes). x.bytes.now) i ∙ n.0,
-      rw (ap (λ (x : SiblingBoxes). x.at) i ∙ n.1) (walked_none a.m.now a.want a.d a.from (runs_at a.s.now a.start)),
+      rw (c.no_span.ensures, ap (λ (x : SiblingBoxes). x.at) i ∙ n.1) (walked_none a.m.now a.want a.d a.from (runs_at a.s.now a.start)),
       omega arith,
     )
 

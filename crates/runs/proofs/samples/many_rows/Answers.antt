@@ -9,7 +9,7 @@ use Rattle.runs.proofs.samples.many_rows.Goals as goal
 pub block-sums-requires : goal.block-sums-requires
 block-sums-requires g c =
     let size = rw c.loop-part.invariant.2 at c.in-Some.ensures.steps.1.1 in
-    (c.requires.0, div-le_of_le-mul g.row.STEP (omega (arith, size)))
+    (c.requires.0.0, div-le_of_le-mul g.row.STEP (omega (arith, size)))
 
 pub loop-part-preserved : goal.loop-part-preserved
 loop-part-preserved g c =

@@ -9,6 +9,7 @@ use Rattle.runs.proofs.samples.sum_column.Goals.{then-n-eq1, else-n-eq1}
 pub returns : goal.returns
 returns c =
     let m = c.args.rows.now in
+    let step4 = c.if-step-ne4.false in
     let b = c.sum_rows-b in
     let h = length m / 8 in
     let s = b.result.ticks + b.result.bytes in
@@ -24,4 +25,4 @@ returns c =
           (summed_more g (h + h) s x.result p (x.ensures ∙ ap (be4 m) (omega (arith, o))) (omega (arith, x.type_inv))) (omega (arith, o)))
       | else-n-eq1 w ↦ rw (w.last-is, add-zero s) (summed_end g (h + h) (length m / 4) s p (omega (arith, w.if-n-eq1.false)))
     ] in
-    rw c.if-step-ne4.false all
+    rw step4 all

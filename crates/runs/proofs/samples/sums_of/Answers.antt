@@ -7,17 +7,17 @@ use Rattle.runs.proofs.samples.sums_of.Goals as goal
 pub sum_rows-requires : goal.sum_rows-requires
 sum_rows-requires c =
     let low = stride_both c.args.run.flags (sym c.in-true-true.ensures) (sym c.in-true-true.ensures') in
-    fields_few _ c.args.d _ _ _ c.requires.0 _ _ c.run_head.ensures.value c.stride-step.ensures.value 8 (omega arith) low c.stride-step.ensures.upper_bound c.requires.1
+    fields_few _ c.args.d _ _ _ c.requires.0 _ _ c.run_head.ensures.value c.stride-step.ensures.value 8 (omega arith) low c.requires.1
 
 pub sum_column-requires : goal.sum_column-requires
 sum_column-requires c =
     let low = stride_ticks c.args.run.flags (sym c.in-true-false.ensures) in
-    fields_few _ c.args.d _ _ _ c.requires.0 _ _ c.run_head.ensures.value c.stride-step.ensures.value 4 (omega arith) low c.stride-step.ensures.upper_bound c.requires.1
+    fields_few _ c.args.d _ _ _ c.requires.0 _ _ c.run_head.ensures.value c.stride-step.ensures.value 4 (omega arith) low c.requires.1
 
 pub sum_column-requires-in-false-true : goal.sum_column-requires-in-false-true
 sum_column-requires-in-false-true c =
     fields_few _ c.args.d _ _ _ c.requires.0 _ _ c.run_head.ensures.value c.stride-step.ensures.value 4 (omega arith)
-    (omega (arith, reach_size c.args.run.flags (sym c.in-false-true.ensures'))) c.stride-step.ensures.upper_bound c.requires.1
+    (omega (arith, reach_size c.args.run.flags (sym c.in-false-true.ensures'))) c.requires.1
 
 pub returns-in-true-true-clause-ticks : goal.returns-in-true-true-clause-ticks
 returns-in-true-true-clause-ticks c =
